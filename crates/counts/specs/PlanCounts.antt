@@ -1,0 +1,40 @@
+-- Document 01's counts of words, for any regular plan: it has 2^G − 1 words, and its pattern over lengths 1 to N sums to that.
+use Prim.Native.Nat.{ℕ, _-_, _^_}
+use mathlib.Core.Path.{_≡_}
+use mathlib.Core.List.{List}
+use lib.ListN.{getD}
+use Rattle.gf2.specs.Counts.{Count, count-same}
+use Rattle.regular.specs.Pattern.{Pattern, sumTo}
+use Rattle.regular.specs.Runs.{Runs, Table, runsOf, switched}
+use Rattle.regular.specs.Words.{Word}
+use Rattle.standard.specs.Form.{StandardFor}
+use Rattle.standard.specs.Model.{standard}
+use Rattle.standard.specs.FromTable.{table-standard}
+use Rattle.words.specs.WordList.{wordsTo}
+use Rattle.words.specs.ReducedWords.{words-generators}
+use Rattle.words.specs.Switches.{word-switched, word-switched-back, words-pattern}
+use Rattle.counts.specs.WordCounts.{word-count}
+use Rattle.counts.specs.Patterns.{pattern-sum}
+
+-- a plan with standard columns
+module _ (n m : ℕ) (s : Runs) (a : List ℕ) (st : StandardFor n m s a) where
+  pub plan-words : Count (Word n s) (2 ^ (n - m) - 1)
+  plan-words = word-count n (n - m) s (wordsTo a n) (words-generators n m s a st)
+
+  pub plan-pattern-sum : (p : List ℕ) → Pattern n s p → sumTo n p ≡ 2 ^ (n - m) - 1
+  plan-pattern-sum p h = pattern-sum n (n - m) s (wordsTo a n) p (words-generators n m s a st) h
+
+-- a regular table, in any order of runs, with any levels switched
+module _ (n m : ℕ) (t : List ℕ) (tab : Table n m t) where
+  abbrev plan : Runs
+  plan = switched (getD t 0 0) (runsOf t)
+
+  pub table-words : Count (Word n (runsOf t)) (2 ^ (n - m) - 1)
+  table-words =
+      count-same (Word n plan) (Word n (runsOf t)) (2 ^ (n - m) - 1) (word-switched-back n (getD t 0 0) (runsOf t)) (word-switched n (getD t 0 0) (runsOf t))
+      (plan-words n m plan (standard t n) (table-standard n m t tab))
+
+  pub table-pattern-sum : (p : List ℕ) → Pattern n (runsOf t) p → sumTo n p ≡ 2 ^ (n - m) - 1
+  table-pattern-sum p h =
+      plan-pattern-sum n m plan (standard t n) (table-standard n m t tab) p
+      (words-pattern n (runsOf t) plan (word-switched n (getD t 0 0) (runsOf t)) (word-switched-back n (getD t 0 0) (runsOf t)) p h)

@@ -1,0 +1,46 @@
+-- A list that is filled from its start: place k holds F k below j, and what it held at entry from there on. Nothing filled, one place more,
+-- all that is past; a table of zeros at entry is zero past what is filled.
+use mathlib.Core.Path.{_≡_, refl, sym, ap, _∙_}
+use mathlib.Core.Logic.{by-cases}
+use mathlib.Core.List.{List}
+use Prim.Native.Nat.{ℕ, zero, suc, _+_, _-_, _<_, _≤_}
+use native.Mathlib.Omega.{arith}
+use native.Mathlib.Decide.{ℕ-discrete}
+use lib.ListN.{length, getD, set, drop, replicate, length-set, length-drop}
+use lib.Seq.{getD-set-same, getD-set-other, getD-drop, ext-getD}
+
+-- t was `entry`, and holds F k at each place k below j
+pub record Filled (F : ℕ → ℕ) (entry : List ℕ) (j : ℕ) (t : List ℕ) : Type 0 where
+  pub size : length t ≡ length entry
+  pub done : (k : ℕ) → k < j → getD t k 0 ≡ F k
+  pub kept : (k : ℕ) → j ≤ k → getD t k 0 ≡ getD entry k 0
+
+pub fill-none : (F : ℕ → ℕ) (entry : List ℕ) → Filled F entry 0 entry
+fill-none F entry = record { size = refl; done = λ k h. absurd (omega arith); kept = λ k h. refl }
+
+module _ (F : ℕ → ℕ) (entry : List ℕ) (j : ℕ) (t : List ℕ) (f : Filled F entry j t) where
+  pub fill-more : (v : ℕ) → j < length entry → v ≡ F j → Filled F entry (j + 1) (set t j v)
+  fill-more v h e =
+      record {
+        size = length-set t j v ∙ f .size;
+        done = λ k l. by-cases (ℕ-discrete k j)
+            (λ p. rw p (getD-set-same t j v 0 (omega (arith, f .size)) ∙ e))
+            (λ ne. getD-set-other t j k v 0 ne ∙ f .done k (omega arith));
+        kept = λ k l. getD-set-other t j k v 0 (λ p. omega arith) ∙ f .kept k (omega arith);
+      }
+
+  -- what is past stays
+  pub fill-past : drop j t ≡ drop j entry
+  fill-past =
+      ext-getD 0 (drop j t) (drop j entry)
+      (length-drop j t ∙ ap (λ (k : ℕ). k - j) (f .size) ∙ sym (length-drop j entry))
+      (λ i h. getD-drop j t i 0 ∙ f .kept (j + i) (omega arith) ∙ sym (getD-drop j entry i 0))
+
+-- a table of zeros
+pub zeros : (n k : ℕ) → _≡_ {A = ℕ} (getD (replicate n 0) k 0) 0
+zeros zero k = refl
+zeros (suc n) zero = refl
+zeros (suc n) (suc k) = zeros n k
+
+pub fill-unused : (F : ℕ → ℕ) (n j : ℕ) (t : List ℕ) → Filled F (replicate n 0) j t → (k : ℕ) → j ≤ k → getD t k 0 ≡ 0
+fill-unused F n j t f k h = f .kept k h ∙ zeros n k

@@ -1,0 +1,9 @@
+pub mod Digits
+pub mod Answers
+pub mod DigitLaws
+pub mod Parity
+pub mod Members
+pub mod Lists
+pub mod Counts
+pub mod Letters
+pub mod Fill

@@ -1,0 +1,54 @@
+-- Columns, the runs that they give, their rank, and the standard columns of a plan (document 01, "Plans in three forms"). Definitions only.
+-- Column bit i says whether basic factor i enters that factor.
+use Prim.Native.Nat.{ℕ, zero, suc, _+_, _*_, _^_, _≤_, _<_}
+use mathlib.Core.Path.{_≡_}
+use mathlib.Core.List.{List}
+use lib.ListN.{length, getD}
+use Rattle.gf2.specs.Digits.{odd}
+use Rattle.gf2.specs.Counts.{Count}
+use Rattle.regular.specs.Runs.{Runs, Agree}
+use Rattle.regular.specs.Words.{Word, Last, total}
+
+-- run j of the first n columns: a factor is low if j and its column share an odd number of bits
+unfoldable pub runOf : List ℕ → ℕ → ℕ → ℕ
+runOf c zero j = 0
+runOf c (suc n) j = runOf c n j + odd j (getD c n 0) * 2 ^ n
+
+-- the plan of n columns: its runs 0 to 2^m - 1
+abbrev pub planOf : ℕ → ℕ → List ℕ → Runs
+planOf n m c x = (j : ℕ) × ((j < 2 ^ m) × (x ≡ runOf c n j))
+
+-- the columns are numbers of m bits
+abbrev pub Below : ℕ → ℕ → List ℕ → Type 0
+Below n m c = (f : ℕ) → f < n → getD c f 0 < 2 ^ m
+
+-- the columns have rank m: every number of m bits is the exclusive-or of some of them
+abbrev pub Spans : ℕ → ℕ → List ℕ → Type 0
+Spans n m c = (v : ℕ) → v < 2 ^ m → (w : ℕ) × ((w < 2 ^ n) × (total c n w ≡ v))
+
+-- the runs of columns in a list: run j at place j
+abbrev pub Listed : ℕ → ℕ → List ℕ → List ℕ → Type 0
+Listed n m c t = (j : ℕ) → j < 2 ^ m → getD t j 0 ≡ runOf c n j
+
+-- the run table of columns in 128 places, the unused places zero
+pub record RunTable (n m : ℕ) (c t : List ℕ) : Type 0 where
+  pub places : length t ≡ 128
+  pub run : Listed n m c t
+  pub unused : (j : ℕ) → 2 ^ m ≤ j → getD t j 0 ≡ 0
+
+-- a factor that is the last letter of no word
+abbrev pub Basic : ℕ → Runs → ℕ → Type 0
+Basic n s f = (w : ℕ) → Word n s w → Last f w → ⊥
+
+-- the standard columns of a plan, as words to columns gives them: from A, a factor that is the last letter of no word takes the next of
+-- 1, 2, 4 and so on; the others follow, since the columns' plan is the plan
+pub record StandardColumns (n m : ℕ) (s : Runs) (c : List ℕ) : Type 0 where
+  pub below : Below n m c
+  pub plan : Agree s (planOf n m c)
+  pub basic : (f k : ℕ) → f < n → Basic n s f → Count (λ e. (e < f) × Basic n s e) k → getD c f 0 ≡ 2 ^ k
+
+-- the run table of a plan, by its standard columns: in a list, and in 128 places
+pub record RunsOfPlan (n m : ℕ) (Table : ℕ → ℕ → List ℕ → List ℕ → Type 0) (s : Runs) (t : List ℕ) : Type 0 where
+  pub columns : List ℕ
+  pub standard : StandardColumns n m s columns
+  pub table : Table n m columns t

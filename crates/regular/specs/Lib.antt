@@ -1,0 +1,11 @@
+pub mod Sizes
+pub mod Runs
+pub mod Words
+pub mod Columns
+pub mod Pattern
+pub mod Designs
+pub mod Refusals
+pub mod RefusalLaws
+pub mod Same
+pub mod Smallest
+pub mod Comparisons

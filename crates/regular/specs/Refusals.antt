@@ -1,0 +1,106 @@
+-- What is turned away, under which number (document 01's table), and what a call's answer says. Definitions only.
+-- Each argument of a call has its faults, by number; a call's faults are those of all its arguments, and the lowest is its answer.
+use Prim.Native.Nat.{ℕ, _-_, _^_, _≤_, _<_}
+use mathlib.Core.Path.{_≡_}
+use mathlib.Core.Logic.{_⊎_}
+use mathlib.Core.List.{List}
+use lib.ListN.{length, getD, take, drop}
+use Rattle.gf2.specs.Members.{In, Different}
+use Rattle.regular.specs.Runs.{Runs, runsOf, Regular}
+use Rattle.regular.specs.Words.{Word, letters, Generated, Independent}
+use Rattle.regular.specs.Columns.{planOf, Spans}
+use Rattle.regular.specs.declared.Design.{Design}
+
+-- a word of fewer than r letters
+pub record Short (n r : ℕ) (s : Runs) : Type 0 where
+  pub word : ℕ
+  pub is : Word n s word
+  pub few : letters word < r
+
+-- 1, 2: the sizes
+pub data SizeFault (n g : ℕ) : ℕ → Type 0 where
+  factors : (n < 1) ⊎ (16 < n) → SizeFault n g 1
+  generators : (n ≤ g) ⊎ (7 < n - g) → SizeFault n g 2
+
+-- 4 to 7: a list of words
+pub data WordsFault (n g : ℕ) (ws : List ℕ) : ℕ → Type 0 where
+  count : (length ws ≡ g → ⊥) → WordsFault n g ws 4
+  past : (i : ℕ) → i < length ws → 2 ^ n ≤ getD ws i 0 → WordsFault n g ws 5
+  dependent : (Independent g ws → ⊥) → WordsFault n g ws 6
+  short : Short n 3 (Generated n g ws) → WordsFault n g ws 7
+
+-- 5 to 7: columns
+pub data ColumnsFault (n m : ℕ) (c : List ℕ) : ℕ → Type 0 where
+  above : (f : ℕ) → f < n → 2 ^ m ≤ getD c f 0 → ColumnsFault n m c 5
+  rank : (Spans n m c → ⊥) → ColumnsFault n m c 6
+  short : Short n 3 (planOf n m c) → ColumnsFault n m c 7
+
+-- 4: a list of columns
+pub data ListFault (n : ℕ) (c : List ℕ) : ℕ → Type 0 where
+  count : (length c ≡ n → ⊥) → ListFault n c 4
+
+-- 4, 5: a design record
+pub data RecordFault (n m : ℕ) (d : Design) : ℕ → Type 0 where
+  factors : (d .factors ≡ n → ⊥) → RecordFault n m d 4
+  basics : (d .basics ≡ m → ⊥) → RecordFault n m d 4
+  used : (f : ℕ) → n ≤ f → f < 16 → (getD (d .columns) f 0 ≡ 0 → ⊥) → RecordFault n m d 5
+
+-- 4 to 7: a run table
+pub data TableFault (n m : ℕ) (t : List ℕ) : ℕ → Type 0 where
+  count : (length t ≡ 2 ^ m → ⊥) → TableFault n m t 4
+  past : (x : ℕ) → In x t → 2 ^ n ≤ x → TableFault n m t 5
+  repeated : (Different t → ⊥) → TableFault n m t 6
+  irregular : (Regular (runsOf t) → ⊥) → TableFault n m t 6
+  short : Short n 3 (runsOf t) → TableFault n m t 7
+
+-- 8: a lent result of fewer than k places
+pub data LentFault (k : ℕ) (out : List ℕ) : ℕ → Type 0 where
+  few : length out < k → LentFault k out 8
+
+-- the faults of two arguments
+abbrev pub either : (ℕ → Type 0) → (ℕ → Type 0) → ℕ → Type 0
+either f h k = f k ⊎ h k
+
+-- the faults of a plan given by words, by a run table, by a design record, by a list of columns
+abbrev pub wordsFaults : ℕ → ℕ → List ℕ → ℕ → Type 0
+wordsFaults n g ws = either (SizeFault n g) (WordsFault n g ws)
+
+abbrev pub runsFaults : ℕ → ℕ → List ℕ → ℕ → Type 0
+runsFaults n g t = either (SizeFault n g) (TableFault n (n - g) t)
+
+abbrev pub designFaults : ℕ → ℕ → Design → ℕ → Type 0
+designFaults n g d = either (SizeFault n g) (either (RecordFault n (n - g) d) (ColumnsFault n (n - g) (d .columns)))
+
+abbrev pub columnsFaults : ℕ → ℕ → List ℕ → ℕ → Type 0
+columnsFaults n g c = either (SizeFault n g) (either (ListFault n c) (ColumnsFault n (n - g) c))
+
+-- the answer's number: 0 if nothing is at fault, else the lowest number that applies
+pub record Lowest (fault : ℕ → Type 0) (r : ℕ) : Type 0 where
+  pub applies : 0 < r → fault r
+  pub least : (k : ℕ) → fault k → (0 < r) × (r ≤ k)
+
+-- a call that answers a number and a value: the blank value if refused
+pub record Gives {A : Type 0} (fault : ℕ → Type 0) (Result : A → Type 0) (blank : A) (r : ℕ) (value : A) : Type 0 where
+  pub number : Lowest fault r
+  pub refused : 0 < r → value ≡ blank
+  pub result : r ≡ 0 → Result value
+
+-- a call that answers a number and fills the first k places of a lent list, from `entry` to `exit`: untouched past them, and whole if refused
+pub record Fills (fault : ℕ → Type 0) (k : ℕ) (Result : List ℕ → Type 0) (entry exit : List ℕ) (r : ℕ) : Type 0 where
+  pub number : Lowest fault r
+  pub refused : 0 < r → exit ≡ entry
+  pub result : r ≡ 0 → Result exit
+  pub past : r ≡ 0 → drop k exit ≡ drop k entry
+  pub size : length exit ≡ length entry
+
+-- a call that says which of two lists it takes: 1 the first, 2 the second if it is better, 0 if it refuses
+pub data Chooses (fault : ℕ → Type 0) (Better : Type 0) : ℕ → Type 0 where
+  refused : (k : ℕ) → 0 < k → Lowest fault k → Chooses fault Better 0
+  first : Lowest fault 0 → (Better → ⊥) → Chooses fault Better 1
+  second : Lowest fault 0 → Better → Chooses fault Better 2
+
+-- a call that hands back one of two lent lists, the first unless the second is better: the empty start of the first if refused
+pub record HandsBack {A : Type 0} (fault : ℕ → Type 0) (Better : Type 0) (first second r : A) (firstNow now : List ℕ) : Type 0 where
+  pub better : Lowest fault 0 → Better → r ≡ second
+  pub otherwise : Lowest fault 0 → (Better → ⊥) → r ≡ first
+  pub refused : (k : ℕ) → 0 < k → Lowest fault k → now ≡ take 0 firstNow

@@ -1,0 +1,54 @@
+// The definitions of document 01, in specs/, and the types that its calls hand around.
+
+// A design record: the factor count, the basic count and sixteen columns, those past the factor count being zero.
+#[repr(C)]
+pub struct Design {
+    pub factors: u8,
+    pub basics: u8,
+    pub columns: [u8; 16],
+}
+
+// A refusal's number, 0 if accepted, and the design; the blank design if refused.
+pub struct DesignAnswer {
+    pub number: u8,
+    pub design: Design,
+}
+
+// A refusal's number, 0 if accepted, and the run table, its unused places zero; all zero if refused.
+pub struct RunsAnswer {
+    pub number: u8,
+    pub runs: [u16; 128],
+}
+
+// A refusal's number, 0 if accepted, and the resolution; 0 if refused.
+pub struct ResolutionAnswer {
+    pub number: u8,
+    pub resolution: u8,
+}
+
+// Whether the standard columns of a plan were found, and they; sixteen zeros or what was found so far if not.
+pub struct Standardized {
+    pub ok: bool,
+    pub columns: [u8; 16],
+}
+
+// A refusal's number, 0 if accepted, and the plan's standard columns.
+pub struct Admitted {
+    pub number: u8,
+    pub columns: [u8; 16],
+}
+
+// What a comparison of two plans finds: the same, with the mask of the witness; different, with the first length where the patterns differ, 0
+// if they agree; or the refusal's number.
+pub enum Compared {
+    Same(u16),
+    Different(u8),
+    Refused(u8),
+}
+
+// What the check of a witness finds, or the refusal's number.
+pub enum Checked {
+    Yes,
+    No,
+    Refused(u8),
+}

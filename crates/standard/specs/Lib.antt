@@ -1,0 +1,11 @@
+pub mod Form
+pub mod Model
+pub mod Coordinates
+pub mod Runs
+pub mod Total
+pub mod Basics
+pub mod FromTable
+pub mod FromColumns
+pub mod Units
+pub mod Unique
+pub mod Plans

@@ -1,0 +1,90 @@
+-- The kinds of examples: a row of the table is plain numbers; what it says, by the definitions of document 01; and a test of it that computes.
+-- That a row which passes is true is proved in RowLaws. A further kind of example is a constructor here, with its meaning, its test and its law.
+use mathlib.Core.Bool.{Bool, not, true}
+use mathlib.Core.List.{List, [], _∷_}
+use Prim.Native.Nat.{ℕ, suc, _-_, _^_}
+use lib.Dec.{eqb, leb, ltb}
+use lib.ListN.{getD}
+use Rattle.regular.specs.Columns.{planOf, runOf, Listed, StandardColumns}
+use Rattle.regular.specs.Comparisons.{Differ}
+use Rattle.regular.specs.Pattern.{Pattern, Resolution, Distances, ofLength}
+use Rattle.regular.specs.Runs.{Runs}
+use Rattle.regular.specs.Same.{Same}
+use Rattle.regular.specs.Words.{Generated, letters, total}
+use Rattle.words.specs.Model.{wordColumns, pivotsAt}
+use Rattle.counts.specs.Models.{products, firstLength}
+use Rattle.counts.specs.Tally.{tally}
+use Rattle.whiteboard.specs.Products.{Multiply, product, ofLetters}
+use Rattle.whiteboard.specs.Tests.{below, agree, onlyZero, every}
+
+pub data Row : Type 0 where
+  -- n columns of m bits, their runs, and the distance counts
+  runs : (n m : ℕ) (columns table distances : List ℕ) → Row
+  -- g words of n factors, and the columns, the pattern and the resolution of the plan that they generate
+  words : (n g : ℕ) (words columns pattern : List ℕ) (resolution : ℕ) → Row
+  -- two lists of g words, the pattern that both plans have, and what their words of l letters multiply to
+  different : (n g : ℕ) (words others pattern : List ℕ) (l product another : ℕ) → Row
+
+-- the runs and distance counts of columns
+pub record RunsRow (n m : ℕ) (c t d : List ℕ) : Type 0 where
+  pub table : Listed n m c t
+  pub distances : Distances n (planOf n m c) (getD t 0 0) d
+
+-- the columns, pattern and resolution of a plan of g generators
+pub record WordsRow (n g : ℕ) (s : Runs) (c p : List ℕ) (r : ℕ) : Type 0 where
+  pub columns : StandardColumns n (n - g) s c
+  pub pattern : Pattern n s p
+  pub resolution : Resolution n s r
+
+-- different plans with length 0; the words of l letters multiply to v in the one and to w in the other
+pub record DifferentRow (n : ℕ) (s t : Runs) (l v w : ℕ) : Type 0 where
+  pub different : Same n s t → ⊥
+  pub length : Differ n s t 0
+  pub first : Multiply n s l v
+  pub second : Multiply n t l w
+
+-- what a row says
+abbrev pub Says : Row → Type 0
+Says (Row.runs n m c t d) = RunsRow n m c t d
+Says (Row.words n g ws c p r) = WordsRow n g (Generated n g ws) c p r
+Says (Row.different n g vs ws p l v w) = DifferentRow n (Generated n g vs) (Generated n g ws) l v w
+
+-- tests of g words: they are independent, and of at most 16 factors
+abbrev pub given : ℕ → ℕ → List ℕ → List Bool
+given n g ws = leb n 16 ∷ leb g n ∷ below (λ i. ltb (getD ws i 0) (2 ^ n)) g ∷ onlyZero (total ws g) (2 ^ g) ∷ []
+
+-- a test of a pattern: it has the number of products of each length
+abbrev pub counts : ℕ → ℕ → List ℕ → List ℕ → Bool
+counts n g ws p = agree (λ i. ofLength p (suc i)) (λ i. products g ws (suc i)) n
+
+-- the tests of a row
+abbrev pub tests : Row → List Bool
+tests (Row.runs n m c t d) =
+    onlyZero (runOf c n) (2 ^ m)
+    ∷ agree (λ j. getD t j 0) (runOf c n) (2 ^ m)
+    ∷ agree (λ i. getD d i 0) (tally (λ j. letters (runOf c n j)) (2 ^ m)) (suc n)
+    ∷ []
+tests (Row.words n g ws c p r) =
+    every (given n g ws)
+    ∷ agree (λ f. getD (wordColumns (pivotsAt ws n g) n) f 0) (λ f. getD c f 0) n
+    ∷ counts n g ws p
+    ∷ eqb (firstLength n p) r
+    ∷ []
+tests (Row.different n g vs ws p l v w) =
+    every (given n g vs)
+    ∷ every (given n g ws)
+    ∷ counts n g vs p
+    ∷ counts n g ws p
+    ∷ eqb (product (ofLetters g vs l)) v
+    ∷ eqb (product (ofLetters g ws l)) w
+    ∷ not (eqb (letters v) (letters w))
+    ∷ []
+
+-- every row of a table is true; every row passes
+abbrev pub AllTrue : List Row → Type 0
+AllTrue [] = Unit {0}
+AllTrue (r ∷ rs) = Says r × AllTrue rs
+
+abbrev pub allPass : List Row → Bool
+allPass [] = true
+allPass (r ∷ rs) = every (every (tests r) ∷ allPass rs ∷ [])

@@ -1,0 +1,46 @@
+-- The whiteboard: the starred examples of document 01, one row an example, and their truth by the definitions.
+use mathlib.Core.Path.{_≡_, refl}
+use mathlib.Core.Bool.{true}
+use mathlib.Core.List.{List, [], _∷_}
+use Prim.Native.Nat.{ℕ}
+use lib.Count.{ones, onesIn}
+use Rattle.gf2.specs.Digits.{odd}
+use Rattle.regular.specs.Columns.{runOf}
+use Rattle.regular.specs.Words.{total}
+use Rattle.words.specs.Model.{reduced, lastOf, pivotsAt, freeBefore, wordColumns}
+use Rattle.counts.specs.Models.{firstLength}
+use Rattle.counts.specs.Tally.{tally}
+use Rattle.whiteboard.specs.Products.{product}
+use Rattle.whiteboard.specs.Rows.{Row, AllTrue, allPass}
+use Rattle.whiteboard.specs.RowLaws.{table-true}
+use Rattle.whiteboard.specs.Tests.{below, those}
+
+-- ABCD, CDEF, ACEGHJ
+abbrev pub wordsP : List ℕ
+wordsP = 15 ∷ 60 ∷ 469 ∷ []
+
+-- ABCD, AEFG, BEHJ
+abbrev pub wordsQ : List ℕ
+wordsQ = 15 ∷ 113 ∷ 402 ∷ []
+
+-- three words of 4 letters and four of 6
+abbrev pub patternPQ : List ℕ
+patternPQ = 0 ∷ 0 ∷ 0 ∷ 3 ∷ 0 ∷ 4 ∷ 0 ∷ 0 ∷ 0 ∷ []
+
+-- P's words of 4 multiply to the identity, Q's to CDFGHJ
+abbrev pub table : List Row
+table =
+    Row.runs 3 2 (1 ∷ 2 ∷ 3 ∷ []) (0 ∷ 5 ∷ 6 ∷ 3 ∷ []) (1 ∷ 0 ∷ 3 ∷ 0 ∷ [])
+    ∷ Row.words 9 3 wordsP (1 ∷ 2 ∷ 4 ∷ 7 ∷ 8 ∷ 11 ∷ 16 ∷ 32 ∷ 61 ∷ []) patternPQ 4
+    ∷ Row.words 9 3 wordsQ (1 ∷ 2 ∷ 4 ∷ 7 ∷ 8 ∷ 16 ∷ 25 ∷ 32 ∷ 42 ∷ []) patternPQ 4
+    ∷ Row.different 9 3 wordsP wordsQ patternPQ 4 0 492
+    ∷ []
+
+-- every row passes its tests, by computation
+every-row-passes : allPass table ≡ true
+unfolding ones onesIn odd runOf total reduced lastOf pivotsAt freeBefore wordColumns firstLength tally product below those
+every-row-passes = refl
+
+-- every row of the table is true of the definitions
+pub whiteboard : AllTrue table
+whiteboard = table-true table every-row-passes

@@ -1,0 +1,12 @@
+pub mod Model
+pub mod Pivots
+pub mod FromWords
+pub mod ToWords
+pub mod Generators
+pub mod Switches
+pub mod Short
+pub mod Standards
+pub mod Letters
+pub mod WordList
+pub mod ReducedWords
+pub mod ReducedUnique
