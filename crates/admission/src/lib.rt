@@ -1,0 +1,197 @@
+// Plans in any of their forms are admitted here: refused by the lowest number that applies, or brought into standard columns. Public for the
+// calls on plans, which all begin so.
+ghost use mathlib.Core.Path.{_≡_};
+ghost use mathlib.Core.Bool.{true, false};
+ghost use Prim.Native.Nat.{ℕ, _-_, _^_, _≤_, _<_};
+ghost use lib.ListN.{length, getD, replicate};
+ghost use Rattle.regular.specs.Sizes.{Size};
+ghost use Rattle.regular.specs.Runs.{runsOf, switched};
+ghost use Rattle.regular.specs.Words.{Generated};
+ghost use Rattle.regular.specs.Columns.{planOf};
+ghost use Rattle.regular.specs.Refusals.{SizeFault, wordsFaults, runsFaults, designFaults, columnsFaults, Lowest};
+ghost use Rattle.admission.specs.Admission.{Admission, Columned};
+use bits::power;
+use bits::wide_byte;
+use regular::Admitted;
+use regular::Design;
+
+// 1 or 2 if the sizes are out of bounds, else 0.
+fn size_number(n: usize, g: usize) -> u8
+    ensures { λ r. ⌜ Lowest (SizeFault n g) r × (r ≡ 0 → Size n g) ⌝ }
+{
+    if n < 1 {
+        return 1;
+    }
+    if 16 < n {
+        return 1;
+    }
+    if n <= g {
+        return 2;
+    }
+    if 7 < n - g {
+        return 2;
+    }
+    0
+}
+
+// The answer of a refusal.
+fn refused(number: u8) -> Admitted
+    ensures { λ r. ⌜ r ≡ record { number = number; columns = replicate 16 0 } ⌝ }
+{
+    Admitted {
+        number,
+        columns: [0u8; 16],
+    }
+}
+
+// A list of generators.
+pub fn admit_words(n: usize, g: usize, words: &[u16]) -> Admitted
+    ensures { λ r. ⌜ Admission (wordsFaults n g (now (words .entry))) n g (Generated n g (now (words .entry))) (r .number) (r .columns) ⌝ }
+{
+    let number = size_number(n, g);
+    if number != 0 {
+        return refused(number);
+    }
+    if words.len() != g {
+        return refused(4);
+    }
+    if !word_forms::letters_below(words, power(n)) {
+        return refused(5);
+    }
+    let found = word_forms::words_columns(n, words);
+    if !found.ok {
+        return refused(6);
+    }
+    let columns = found.columns;
+    if !column_forms::plain(n, columns) {
+        return refused(7);
+    }
+    Admitted { number: 0, columns }
+}
+
+// A run table.
+pub fn admit_runs(n: usize, g: usize, runs: &[u16]) -> Admitted
+    ensures { λ r. ⌜ Admission (runsFaults n g (now (runs .entry))) n g (switched (getD (now (runs .entry)) 0 0) (runsOf (now (runs .entry)))) (r .number) (r .columns) ⌝ }
+{
+    let number = size_number(n, g);
+    if number != 0 {
+        return refused(number);
+    }
+    let m = n - g;
+    if runs.len() != power(m) {
+        return refused(4);
+    }
+    if !table_forms::all_below(runs, power(n)) {
+        return refused(5);
+    }
+    let found = table_forms::table_columns(n, m, runs);
+    if !found.ok {
+        return refused(6);
+    }
+    let columns = found.columns;
+    if !column_forms::plain(n, columns) {
+        return refused(7);
+    }
+    Admitted { number: 0, columns }
+}
+
+// Whether the first n columns are below `end`.
+fn columns_below(n: usize, end: usize, columns: [u8; 16]) -> bool
+    requires { ⌜ n ≤ 16 ⌝ }
+    ensures { λ r. ⌜ (r ≡ true → ((f : ℕ) → f < n → getD columns f 0 < end)) × (r ≡ false → ((f : ℕ) × ((f < n) × (end ≤ getD columns f 0)))) ⌝ }
+{
+    let mut f = 0;
+    while f < n {
+        if end <= wide_byte(columns[f]) {
+            return false;
+        }
+        f += 1;
+    }
+    true
+}
+
+// Columns of sizes in bounds: 5, 6, 7, or their plan's standard columns.
+fn admit_array(n: usize, m: usize, columns: [u8; 16]) -> Admitted
+    requires { ⌜ (n ≤ 16) × (m ≤ 7) ⌝ }
+    ensures { λ r. ⌜ Columned n m columns (r .number) (r .columns) ⌝ }
+{
+    if !columns_below(n, power(m), columns) {
+        return refused(5);
+    }
+    let found = column_forms::standardize(n, m, columns);
+    if !found.ok {
+        return refused(6);
+    }
+    let standard = found.columns;
+    if !column_forms::plain(n, standard) {
+        return refused(7);
+    }
+    Admitted {
+        number: 0,
+        columns: standard,
+    }
+}
+
+// Whether the places from n on are 0.
+fn unused_zero(n: usize, columns: [u8; 16]) -> bool
+    ensures { λ r. ⌜ (r ≡ true → ((f : ℕ) → n ≤ f → f < 16 → getD columns f 0 ≡ 0)) × (r ≡ false → ((f : ℕ) × ((n ≤ f) × ((f < 16) × (getD columns f 0 ≡ 0 → ⊥))))) ⌝ }
+{
+    let mut f = n;
+    while f < 16 {
+        if columns[f] != 0 {
+            return false;
+        }
+        f += 1;
+    }
+    true
+}
+
+// A design record.
+pub fn admit_design(n: usize, g: usize, design: Design) -> Admitted
+    ensures { λ r. ⌜ Admission (designFaults n g design) n g (planOf n (n - g) (design .columns)) (r .number) (r .columns) ⌝ }
+{
+    let number = size_number(n, g);
+    if number != 0 {
+        return refused(number);
+    }
+    let m = n - g;
+    if wide_byte(design.factors) != n {
+        return refused(4);
+    }
+    if wide_byte(design.basics) != m {
+        return refused(4);
+    }
+    let columns = design.columns;
+    if !unused_zero(n, columns) {
+        return refused(5);
+    }
+    admit_array(n, m, columns)
+}
+
+// The bytes of a list as an array, zeros after them. Public for the call that lists runs.
+pub fn array_of(list: &[u8]) -> [u8; 16]
+    requires { ⌜ length (now list) ≤ 16 ⌝ }
+    ensures { λ r. ⌜ ((f : ℕ) → getD r f 0 ≡ getD (now (list .entry)) f 0) ⌝ }
+{
+    let mut columns = [0u8; 16];
+    let mut f = 0;
+    while f < list.len() {
+        columns[f] = list[f];
+        f += 1;
+    }
+    columns
+}
+
+// A list of columns.
+pub fn admit_columns(n: usize, g: usize, list: &[u8]) -> Admitted
+    ensures { λ r. ⌜ Admission (columnsFaults n g (now (list .entry))) n g (planOf n (n - g) (now (list .entry))) (r .number) (r .columns) ⌝ }
+{
+    let number = size_number(n, g);
+    if number != 0 {
+        return refused(number);
+    }
+    if list.len() != n {
+        return refused(4);
+    }
+    admit_array(n, n - g, array_of(list))
+}

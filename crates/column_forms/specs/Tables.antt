@@ -1,0 +1,42 @@
+-- What tables hold while they are filled: a table copied to its second half, the two tables of span doubling, the marks of columns.
+-- Definitions only.
+use mathlib.Core.Path.{_≡_}
+use mathlib.Core.Logic.{_⊎_}
+use mathlib.Core.List.{List}
+use Prim.Native.Nat.{ℕ, _+_, _<_, _≤_}
+use lib.Bits.{bitXor}
+use lib.ListN.{length, getD}
+use Rattle.standard.specs.Form.{Plain}
+
+-- t is s with its first k places, u exclusive-or, written from place half on
+pub record Copied (u half k : ℕ) (s t : List ℕ) : Type 0 where
+  pub size : length t ≡ length s
+  pub low : (i : ℕ) → i < half → getD t i 0 ≡ getD s i 0
+  pub high : (i : ℕ) → i < k → getD t (half + i) 0 ≡ bitXor (getD s i 0) u
+  pub past : (i : ℕ) → half + k ≤ i → getD t i 0 ≡ getD s i 0
+
+-- sums holds F at each place below s, and places is its inverse: one more than the place of a number that is there, 0 for any other number
+pub record Held (F : ℕ → ℕ) (s : ℕ) (sums places : List ℕ) : Type 0 where
+  pub filled : (i : ℕ) → i < s → getD sums i 0 ≡ F i
+  pub back : (i : ℕ) → i < s → getD places (F i) 0 ≡ i + 1
+  pub only : (v i : ℕ) → getD places v 0 ≡ i + 1 → (i < s) × (F i ≡ v)
+
+-- F goes on from half to its double by the column c, and takes no number twice
+pub record Doubles (F : ℕ → ℕ) (c half : ℕ) : Type 0 where
+  pub next : (k : ℕ) → k < half → F (half + k) ≡ bitXor (F k) c
+  pub once : (i j : ℕ) → i < half + half → j < half + half → F i ≡ F j → i ≡ j
+
+-- the two tables, at first s and p, with k sums more: whatever F they held below half, they hold it below half + k
+pub record Grown (c half k : ℕ) (s p sums places : List ℕ) : Type 0 where
+  pub long : length sums ≡ length s
+  pub wide : length places ≡ length p
+  pub low : (i : ℕ) → i < half → getD sums i 0 ≡ getD s i 0
+  pub held : (F : ℕ → ℕ) → Doubles F c half → Held F half s p → Held F (half + k) sums places
+
+-- seen marks 0 and the first f columns, and no other number; these columns are plain
+pub record Seen (c : List ℕ) (f : ℕ) (seen : List ℕ) : Type 0 where
+  pub size : length seen ≡ 128
+  pub none : getD seen 0 0 ≡ 0 → ⊥
+  pub passed : (g : ℕ) → g < f → getD seen (getD c g 0) 0 ≡ 0 → ⊥
+  pub only : (v : ℕ) → (getD seen v 0 ≡ 0 → ⊥) → (v ≡ 0) ⊎ ((g : ℕ) × ((g < f) × (getD c g 0 ≡ v)))
+  pub plain : Plain f c

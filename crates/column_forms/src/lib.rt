@@ -1,0 +1,118 @@
+// From columns to their standard columns, their run table, and whether one is 0 or stands twice.
+ghost use mathlib.Core.Path.{_≡_};
+ghost use mathlib.Core.Bool.{true, false};
+ghost use Prim.Native.Nat.{ℕ, _+_, _^_, _<_, _≤_};
+ghost use lib.ListN.{length, getD};
+ghost use Rattle.regular.specs.Columns.{planOf, Below, Spans, RunTable, runOf};
+ghost use Rattle.standard.specs.Form.{Found, Plain, Repeat};
+ghost use Rattle.column_forms.specs.Tables.{Copied, Grown};
+use regular::Standardized;
+
+// Twice as many sums of columns, by the column c: place half + k holds the sum at place k with c, and places finds it again.
+// Called by the order of basic factors.
+pub fn double(c: u8, half: usize, sums: &mut [u8; 128], places: &mut [u8; 128])
+    requires { ⌜ (half ≤ 64) × (c < 128) × (length (now sums) ≡ 128) × (length (now places) ≡ 128) × ((k : ℕ) → k < half → getD (now sums) k 0 < 128) ⌝ }
+    ensures { λ _. ⌜ Grown c half half (now (sums .entry)) (now (places .entry)) (now (sums .exit)) (now (places .exit)) ⌝ }
+{
+    let mut k: usize = 0;
+    while k < half {
+        let v = sums[k] ^ c;
+        sums[half + k] = v;
+        let z = bits::wide_byte(v);
+        places[z] = (half + k + 1) as u8;
+        k += 1;
+    }
+}
+
+// The standard columns of the plan of the columns, found exactly if they have rank m.
+pub fn standardize(n: usize, m: usize, cols: [u8; 16]) -> Standardized
+    requires { ⌜ (n ≤ 16) × (m ≤ 7) × Below n m cols ⌝ }
+    ensures { λ r. ⌜ Found n m (Spans n m cols) (planOf n m cols) (r .ok) (r .columns) ⌝ }
+{
+    let mut columns = [0u8; 16];
+    let mut sums = [0u8; 128];
+    let mut places = [0u8; 128];
+    places[0] = 1;
+    let mut half: usize = 1;
+    let mut f: usize = 0;
+    while f < n {
+        let c = cols[f];
+        let z = bits::wide_byte(c);
+        let p = places[z];
+        if p != 0 {
+            columns[f] = p - 1;
+            f += 1;
+            continue;
+        }
+        columns[f] = half as u8;
+        double(c, half, &mut sums, &mut places);
+        half += half;
+        f += 1;
+    }
+    let ok = half == 1 << m;
+    Standardized { ok, columns }
+}
+
+// Whether no column is 0 and none stands twice.
+pub fn plain(n: usize, cols: [u8; 16]) -> bool
+    requires { ⌜ (n ≤ 16) × Below n 7 cols ⌝ }
+    ensures { λ r. ⌜ (r ≡ true → Plain n cols) × (r ≡ false → Repeat n cols) ⌝ }
+{
+    let mut seen = [0u8; 128];
+    seen[0] = 1;
+    let mut f: usize = 0;
+    while f < n {
+        let z = bits::wide_byte(cols[f]);
+        if seen[z] != 0 {
+            return false;
+        }
+        seen[z] = 1;
+        f += 1;
+    }
+    true
+}
+
+// Run 2^d of the columns: bit d of column f at bit f.
+fn unit_run(n: usize, d: usize, cols: [u8; 16]) -> u16
+    requires { ⌜ (n ≤ 16) × (d < 16) ⌝ }
+    ensures { λ r. ⌜ r ≡ runOf cols n (2 ^ d) ⌝ }
+{
+    let mut w: u16 = 0;
+    let mut f: usize = 0;
+    while f < n {
+        let x = bits::level(cols[f] as u16, d);
+        w = w | (x << f);
+        f += 1;
+    }
+    w
+}
+
+// Twice as many runs, by the run u: place half + k holds the run at place k exclusive-or u.
+fn copy_runs(u: u16, half: usize, t: &mut [u16; 128])
+    requires { ⌜ (half ≤ 64) × (length (now t) ≡ 128) ⌝ }
+    ensures { λ _. ⌜ Copied u half half (now (t .entry)) (now (t .exit)) ⌝ }
+{
+    let mut k: usize = 0;
+    while k < half {
+        let x = t[k] ^ u;
+        t[half + k] = x;
+        k += 1;
+    }
+}
+
+// The run table of the columns: run j at place j, the unused places zero.
+pub fn run_table(n: usize, m: usize, cols: [u8; 16]) -> [u16; 128]
+    requires { ⌜ (n ≤ 16) × (m ≤ 7) ⌝ }
+    ensures { λ r. ⌜ RunTable n m cols r ⌝ }
+{
+    let mut t = [0u16; 128];
+    let mut half: usize = 1;
+    let mut d: usize = 0;
+    while d < m {
+        let u = unit_run(n, d, cols);
+        copy_runs(u, half, &mut t);
+        half += half;
+        d += 1;
+    }
+    t
+}

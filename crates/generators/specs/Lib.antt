@@ -1,0 +1,2 @@
+pub mod WordTable
+pub mod Walk

@@ -1,0 +1,27 @@
+-- `lent::lend_bytes` meets its contract: too short a list is untouched, any other holds the copy. Assumes nothing.
+use native.Mathlib.Omega.{arith}
+use borrow.Author.Needs.{needs}
+use lib.ListN.{length}
+use Rattle.lent.specs.Copied.{Begins}
+use Rattle.lent.specs.Lends.{lends-short, lends-copied}
+use Rattle.lent.proofs.lend_bytes.Statement.{statement}
+use Rattle.lent.proofs.lend_bytes.Tie as tie
+
+returns : tie.Need-returns
+returns c =
+    let a = c .before .before .before .args in
+    lends-short (length (a .bytes .now)) (Begins (a .bytes .now)) (a .out .now) (omega arith)
+
+copy-bytes-requires : tie.Need-copy-bytes-requires
+copy-bytes-requires c κs = search needs
+
+same-length : tie.Need-same-length
+same-length c = search needs
+
+returns-2 : tie.Need-returns-2
+returns-2 c =
+    let a = c .before .before .before .before .before .before .before .args in
+    lends-copied (a .bytes .now) (a .out .now) (c .before .before .copy-bytes .last .1 .0) (omega arith) (c .before .before .copy-bytes .ensures)
+
+pub lend-bytes-spec : {M : Type 1} → statement M
+lend-bytes-spec = tie.close (tie.spec returns copy-bytes-requires same-length returns-2)

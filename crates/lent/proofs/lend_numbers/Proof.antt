@@ -1,0 +1,27 @@
+-- `lent::lend_numbers` meets its contract: too short a list is untouched, any other holds the copy. Assumes nothing.
+use native.Mathlib.Omega.{arith}
+use borrow.Author.Needs.{needs}
+use lib.ListN.{length}
+use Rattle.lent.specs.Copied.{Begins}
+use Rattle.lent.specs.Lends.{lends-short, lends-copied}
+use Rattle.lent.proofs.lend_numbers.Statement.{statement}
+use Rattle.lent.proofs.lend_numbers.Tie as tie
+
+returns : tie.Need-returns
+returns c =
+    let a = c .before .before .before .args in
+    lends-short (length (a .numbers .now)) (Begins (a .numbers .now)) (a .out .now) (omega arith)
+
+copy-numbers-requires : tie.Need-copy-numbers-requires
+copy-numbers-requires c κs = search needs
+
+same-length : tie.Need-same-length
+same-length c = search needs
+
+returns-2 : tie.Need-returns-2
+returns-2 c =
+    let a = c .before .before .before .before .before .before .before .args in
+    lends-copied (a .numbers .now) (a .out .now) (c .before .before .copy-numbers .last .1 .0) (omega arith) (c .before .before .copy-numbers .ensures)
+
+pub lend-numbers-spec : {M : Type 1} → statement M
+lend-numbers-spec = tie.close (tie.spec returns copy-numbers-requires same-length returns-2)

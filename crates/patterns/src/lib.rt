@@ -1,0 +1,119 @@
+// Pattern, resolution, distance counts, and which of two patterns is better, on plain numbers and arrays.
+// Public for the calls on plans, which check their arguments first.
+ghost use mathlib.Core.Bool.{true, false};
+ghost use mathlib.Core.Path.{_≡_};
+ghost use Prim.Native.Nat.{ℕ, _^_, _<_, _≤_};
+ghost use lib.ListN.{length, getD};
+ghost use Rattle.regular.specs.Pattern.{Better};
+ghost use Rattle.counts.specs.Models.{PatternModel, DistanceModel, firstLength};
+ghost use Rattle.patterns.specs.Steps.{Doubled, Products, LetterCounts, FromOne};
+
+// Puts each of the first half numbers, with w, half places further.
+fn double(sums: &mut [u16; 2048], half: usize, w: u16)
+    requires { ⌜ (half ≤ 1024) × (length (now sums) ≡ 2048) ⌝ }
+    ensures { λ _. ⌜ Doubled half w half (now (sums .entry)) (now (sums .exit)) ⌝ }
+{
+    let mut k: usize = 0;
+    while k < half {
+        let s = sums[k];
+        sums[half + k] = s ^ w;
+        k += 1;
+    }
+}
+
+// The products of the first g words, that of the words at the bits of t at place t.
+fn products(g: usize, words: [u16; 16]) -> [u16; 2048]
+    requires { ⌜ g ≤ 11 ⌝ }
+    ensures { λ r. ⌜ Products g words r ⌝ }
+{
+    let mut sums = [0u16; 2048];
+    let mut half: usize = 1;
+    let mut d: usize = 0;
+    while d < g {
+        double(&mut sums, half, words[d]);
+        half = half + half;
+        d += 1;
+    }
+    sums
+}
+
+// How many of the first `end` numbers have i letters, at place i.
+fn letter_counts(list: &[u16], end: usize) -> [u16; 17]
+    requires { ⌜ (end ≤ length (now list)) × (end ≤ 2048) ⌝ }
+    ensures { λ r. ⌜ LetterCounts end (now (list .entry)) r ⌝ }
+{
+    let mut counts = [0u16; 17];
+    let mut j: usize = 0;
+    while j < end {
+        let l = bits::letters(list[j]);
+        let c = counts[l];
+        counts[l] = c + 1;
+        j += 1;
+    }
+    counts
+}
+
+// The counts of lengths 1 to n, that of length l at place l - 1.
+fn from_one(n: usize, counts: [u16; 17]) -> [u16; 16]
+    requires { ⌜ n ≤ 16 ⌝ }
+    ensures { λ r. ⌜ FromOne n counts r ⌝ }
+{
+    let mut p = [0u16; 16];
+    let mut i: usize = 0;
+    while i < n {
+        p[i] = counts[i + 1];
+        i += 1;
+    }
+    p
+}
+
+// The pattern of a plan from generators of its words: the count of length l at place l - 1. Called by the calls on patterns.
+pub fn pattern_of(n: usize, g: usize, words: [u16; 16]) -> [u16; 16]
+    requires { ⌜ (n ≤ 16) × (g ≤ 11) × ((i : ℕ) → i < g → getD words i 0 < 2 ^ n) ⌝ }
+    ensures { λ r. ⌜ PatternModel n g words r ⌝ }
+{
+    let sums = products(g, words);
+    let end: usize = 1 << g;
+    let counts = letter_counts(&sums, end);
+    from_one(n, counts)
+}
+
+// The resolution from the pattern: the first length with a word, 0 if there is none. Called by the calls on resolution.
+pub fn resolution_of(n: usize, pattern: [u16; 16]) -> u8
+    requires { ⌜ n ≤ 16 ⌝ }
+    ensures { λ r. ⌜ r ≡ firstLength n pattern ⌝ }
+{
+    let mut i: usize = 0;
+    while i < n {
+        if pattern[i] != 0 {
+            return (i + 1) as u8;
+        }
+        i += 1;
+    }
+    0
+}
+
+// How many of the first `end` runs have i low levels, at place i. Called by the calls on distance counts.
+pub fn distances_of(n: usize, end: usize, runs: [u16; 128]) -> [u16; 17]
+    requires { ⌜ (n ≤ 16) × (end ≤ 128) × ((j : ℕ) → j < end → getD runs j 0 < 2 ^ n) ⌝ }
+    ensures { λ r. ⌜ DistanceModel n end runs r ⌝ }
+{
+    letter_counts(&runs, end)
+}
+
+// Whether p has the smaller count at the first length from 3 to m where the two differ. Called by the call on aberration.
+pub fn better(m: usize, p: [u16; 16], q: [u16; 16]) -> bool
+    requires { ⌜ m ≤ 16 ⌝ }
+    ensures { λ r. ⌜ ((r ≡ true) → Better m p q) × ((r ≡ false) → Better m p q → ⊥) ⌝ }
+{
+    let mut l: usize = 3;
+    while l <= m {
+        let a = p[l - 1];
+        let b = q[l - 1];
+        if a != b {
+            return a < b;
+        }
+        l += 1;
+    }
+    false
+}

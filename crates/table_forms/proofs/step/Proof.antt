@@ -1,0 +1,110 @@
+-- `table_forms::step` meets its contract: the candidate fits, or the factor is basic. Assumes nothing.
+use Prim.Native.Nat.{_+_}
+use native.Mathlib.Omega.{arith}
+use borrow.Author.Tests.{not-true, not-false}
+use borrow.Author.Needs.{needs}
+use lib.ListN.{length}
+use Rattle.table_forms.specs.Turns.{count-small}
+use Rattle.table_forms.specs.Steps.{ended, walk-small, walk-room, walk-below, step-missing, step-below, step-follow, step-full, step-grow}
+use Rattle.table_forms.proofs.step.Statement.{statement}
+use Rattle.table_forms.proofs.step.Tie as tie
+
+candidate-requires : tie.Need-candidate-requires
+candidate-requires c κs =
+    let s = c .before .before .before .before .before in
+    let m = s .args .m in
+    let t = s .args .t .now in
+    let f = s .args .f in
+    let w = s .args .w in
+    (s .pre .0, walk-small m t f w (s .pre .3) (s .pre .1) .0, count-small m (length t) (s .pre .1) (s .pre .2) .1, s .pre .3 .latest .within)
+
+refuse-requires : tie.Need-refuse-requires
+refuse-requires c κs = search needs
+
+returns : tie.Need-returns
+returns c =
+    let s = c .before .before .before .before .before .before .before .before .before in
+    let m = s .args .m in
+    let t = s .args .t .now in
+    let f = s .args .f in
+    let w = s .args .w in
+    let k = c .before .before .before .candidate in
+    ended m t (f + 1) (c .refuse .result) (c .refuse .ensures) (step-missing m t f w (s .pre .3) (k .result .column) (k .result .ok) (k .ensures) (not-true _ (c .before .if1 .taken)))
+
+fits-requires : tie.Need-fits-requires
+fits-requires c κs =
+    let s = c .before .before .before .before .before .before .before .before .before in
+    (s .pre .0, count-small (s .args .m) (length (s .args .t .now)) (s .pre .1) (s .pre .2) .1)
+
+follow-requires : tie.Need-follow-requires
+follow-requires c κs =
+    let s = c .before .before .before .before .before .before .before .before .before .before .before in
+    let m = s .args .m in
+    let t = s .args .t .now in
+    let f = s .args .f in
+    let w = s .args .w in
+    let k = c .before .before .before .before .before .candidate in
+    (s .pre .0, omega (arith, step-below m t f w (s .pre .3) (k .result .column) (k .result .ok) (k .ensures) (not-false _ (c .before .before .before .if1 .left)), s .pre .3 .half, walk-small m t f w (s .pre .3) (s .pre .1) .1))
+
+returns-2 : tie.Need-returns-2
+returns-2 c =
+    let s = c .before .before .before .before .before .before .before .before .before .before .before .before in
+    let m = s .args .m in
+    let t = s .args .t .now in
+    let f = s .args .f in
+    let w = s .args .w in
+    let k = c .before .before .before .before .before .before .candidate in
+    step-follow m t f w (s .pre .3) (k .result .column) (k .result .ok) (k .ensures) (not-false _ (c .before .before .before .before .if1 .left))
+    (c .before .before .fits2 .result) (c .before .before .fits2 .ensures) (c .follow .result) (c .before .if2 .taken) (s .pre .0) (c .follow .ensures)
+
+refuse-requires-2 : tie.Need-refuse-requires-2
+refuse-requires-2 c κs = search needs
+
+returns-3 : tie.Need-returns-3
+returns-3 c =
+    let s = c .before .before .before .before .before .before .before .before .before .before .before .before .before in
+    let m = s .args .m in
+    let t = s .args .t .now in
+    let f = s .args .f in
+    let w = s .args .w in
+    let k = c .before .before .before .before .before .before .before .candidate in
+    ended m t (f + 1) (c .refuse2 .result) (c .refuse2 .ensures)
+    (step-full m t f w (s .pre .3) (k .result .column) (k .result .ok) (k .ensures) (not-false _ (c .before .before .before .before .before .if1 .left))
+    (c .before .before .before .fits2 .result) (c .before .before .before .fits2 .ensures) (c .before .before .if2 .left) (c .before .if3 .taken))
+
+grow-requires : tie.Need-grow-requires
+grow-requires c κs =
+    let s = c .before .before .before .before .before .before .before .before .before .before .before .before in
+    let m = s .args .m in
+    let t = s .args .t .now in
+    let f = s .args .f in
+    let w = s .args .w in
+    let room = walk-room m t f w (s .pre .3) (s .pre .1) (c .if3 .left) in
+    let count = count-small m (length t) (s .pre .1) (s .pre .2) in
+    ((s .pre .0, room .0, room .1), (count .0, count .1, walk-below m t f w (s .pre .3)))
+
+returns-4 : tie.Need-returns-4
+returns-4 c =
+    let s = c .before .before .before .before .before .before .before .before .before .before .before .before .before in
+    let m = s .args .m in
+    let t = s .args .t .now in
+    let f = s .args .f in
+    let w = s .args .w in
+    let k = c .before .before .before .before .before .before .before .candidate in
+    step-grow m t f w (s .pre .3) (k .result .column) (k .result .ok) (k .ensures) (not-false _ (c .before .before .before .before .before .if1 .left))
+    (c .before .before .before .fits2 .result) (c .before .before .before .fits2 .ensures) (c .grow .result) (c .before .before .if2 .left) (s .pre .0) (c .before .if3 .left) (c .grow .ensures)
+
+pub step-spec : {M : Type 1} → statement M
+step-spec =
+    tie.close
+    (tie.spec
+    candidate-requires
+    refuse-requires
+    returns
+    fits-requires
+    follow-requires
+    returns-2
+    refuse-requires-2
+    returns-3
+    grow-requires
+    returns-4)

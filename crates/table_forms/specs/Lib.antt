@@ -1,0 +1,5 @@
+pub mod Places
+pub mod Walk
+pub mod Turns
+pub mod Steps
+pub mod Verdict

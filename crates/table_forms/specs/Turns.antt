@@ -1,0 +1,95 @@
+-- What a turn of each loop of the walk does.
+use mathlib.Core.Path.{_≡_, refl, sym, ap, ap₂, _∙_}
+use mathlib.Core.Logic.{by-cases}
+use mathlib.Core.Bool.{true, false}
+use mathlib.Core.List.{List}
+use Prim.Native.Nat.{ℕ, _+_, _*_, _^_, _<_, _≤_}
+use native.Mathlib.Nat.{two-pow-succ}
+use native.Mathlib.Numerals.{add-one}
+use native.Mathlib.Omega.{arith}
+use native.Mathlib.Decide.{ℕ-discrete, decLt}
+use lib.Arith.{digits-lt}
+use lib.Pow.{pow-pos, pow-mono}
+use lib.ListN.{length, getD, set, replicate, getD-replicate, length-replicate, List·getD-eq-default, length-set}
+use lib.Seq.{getD-set-same, getD-set-other}
+use Rattle.gf2.specs.Digits.{bit}
+use Rattle.gf2.specs.DigitLaws.{low-bit, bit-top}
+use Rattle.table_forms.specs.Walk.{diffAt, Latest, Read, Extended}
+
+-- a list of zeros holds 0, and so does the place past its end
+pub zeros-at : (n i : ℕ) → _≡_ {A = ℕ} (getD (replicate n 0) i 0) 0
+zeros-at n i = by-cases (decLt i n) (λ h. getD-replicate n i 0 0 h) (λ h. List·getD-eq-default (replicate n 0) 0 {n = i} (omega (arith, length-replicate {A = ℕ} n 0)))
+
+-- the last run with given levels
+pub latest-none : (count : ℕ) (coords : List ℕ) → 0 < count → Latest count 0 coords (replicate 128 0)
+latest-none count coords h =
+    record {
+      size = refl;
+      within = λ c. omega (arith, zeros-at 128 c);
+      same = λ i l. absurd (omega arith);
+      last = λ i l. absurd (omega arith);
+    }
+
+pub latest-more : (count k : ℕ) (coords v : List ℕ) → k < count → getD coords k 0 < 128 → Latest count k coords v → Latest count (k + 1) coords (set v (getD coords k 0) k)
+latest-more count k coords v h b l =
+    let c = getD coords k 0 in
+    let here : getD (set v c k) c 0 ≡ k = getD-set-same v c k 0 (omega (arith, l .size)) in
+    let other : (e : ℕ) → (e ≡ c → ⊥) → getD (set v c k) e 0 ≡ getD v e 0 = λ e ne. getD-set-other v c e k 0 ne in
+    record {
+      size = length-set v c k ∙ l .size;
+      within = λ e. by-cases (ℕ-discrete e c)
+          (λ p. omega (arith, ap (λ (y : ℕ). getD (set v c k) y 0) p, here))
+          (λ ne. omega (arith, other e ne, l .within e));
+      same = λ i s. by-cases (ℕ-discrete (getD coords i 0) c)
+          (λ p. ap (λ (y : ℕ). getD coords y 0) (ap (λ (y : ℕ). getD (set v c k) y 0) p ∙ here) ∙ sym p)
+          (λ ne. ap (λ (y : ℕ). getD coords y 0) (other (getD coords i 0) ne) ∙ l .same i (before i s ne));
+      last = λ i s. by-cases (ℕ-discrete (getD coords i 0) c)
+          (λ p. omega (arith, ap (λ (y : ℕ). getD (set v c k) y 0) p, here))
+          (λ ne. omega (arith, other (getD coords i 0) ne, l .last i (before i s ne)));
+    }
+  where
+    before : (i : ℕ) → i < k + 1 → (getD coords i 0 ≡ getD coords k 0 → ⊥) → i < k
+    before i s ne = by-cases (ℕ-discrete i k) (λ e. absurd (ne (ap (λ (y : ℕ). getD coords y 0) e))) (λ n. omega arith)
+
+-- the next unit
+pub half-next : (i half : ℕ) → half ≡ 2 ^ i → half + half ≡ 2 ^ (i + 1)
+half-next i half e = rw (add-one i) (omega (arith, two-pow-succ i))
+
+pub half-small : (i half : ℕ) → half ≡ 2 ^ i → i < 7 → half ≤ 64
+half-small i half e h = omega (arith, pow-mono {i = i} {j = 6} (omega arith))
+
+-- the number of runs
+pub count-small : (m k : ℕ) → m ≤ 7 → k ≡ 2 ^ m → (0 < k) × (k ≤ 128)
+count-small m k h e = (omega (arith, pow-pos m), omega (arith, pow-mono {i = m} {j = 7} h))
+
+-- the candidate column: one more bit
+pub read-below : (half d k : ℕ) → d < 2 → k < half → d * half + k < half + half
+read-below half d k hd hk = omega (arith, digits-lt {q = d} {m = 2} {r = k} {c = half} hd hk)
+
+pub read-more : (t coords : List ℕ) (f i half d k x : ℕ) → half ≡ 2 ^ i → k < half → x < length t → getD coords x 0 ≡ half → d ≡ bit f (diffAt t x)
+    → ((j : ℕ) → j < i → Read t coords f k j) → (j : ℕ) → j < i + 1 → Read t coords f (d * half + k) j
+read-more t coords f i half d k x e hk hx ce de read j h =
+    let w : d * half + k ≡ d * 2 ^ i + k = ap (λ (y : ℕ). d * y + k) e in
+    by-cases (ℕ-discrete j i)
+    (λ p. (x, (hx, (ce ∙ e ∙ ap (λ (y : ℕ). 2 ^ y) (sym p), ap₂ bit p w ∙ bit-top i d k (omega arith) (omega arith) ∙ de))))
+    (λ ne.
+    let r = read j (omega arith) in
+    (r .0, (r .1 .0, (r .1 .1 .0, ap (bit j) w ∙ low-bit j i d k (omega arith) (omega arith) ∙ r .1 .1 .1))))
+
+-- one more basic factor: the levels of one more run
+pub extend-none : (t c : List ℕ) (f half : ℕ) → length c ≡ 128 → Extended t c c f half 0
+extend-none t c f half l = record { size = l; made = λ i h. absurd (omega arith); kept = λ i h. refl }
+
+pub extend-more : (t c₀ c : List ℕ) (f half k v : ℕ) → k < 128 → Extended t c₀ c f half k → v ≡ bit f (diffAt t k) * half + getD c k 0 → Extended t c₀ (set c k v) f half (k + 1)
+extend-more t c₀ c f half k v h x e =
+    record {
+      size = length-set c k v ∙ x .size;
+      made = λ i l. by-cases (ℕ-discrete i k)
+          (λ p. rw p (getD-set-same c k v 0 (omega (arith, x .size)) ∙ e ∙ ap (λ (y : ℕ). bit f (diffAt t k) * half + y) (x .kept k (omega arith))))
+          (λ ne. getD-set-other c k i v 0 ne ∙ x .made i (omega arith));
+      kept = λ i l. getD-set-other c k i v 0 (λ p. omega arith) ∙ x .kept i (omega arith);
+    }
+
+-- the answer of a test is one of two
+pub never : {A : Type 0} → true ≡ false → A
+never e = let z : _≡_ {A = ℕ} 0 1 = cc in absurd (omega arith)
