@@ -1,0 +1,87 @@
+-- Less aberration by the patterns, whichever lists hold them, and which list is handed back.
+use mathlib.Core.Path.{_≡_, refl, subst, _∙_}
+use mathlib.Core.List.{List}
+use Prim.Native.Nat.{ℕ, _-_, _≤_, _<_}
+use native.Mathlib.Omega.{arith}
+use lib.ListN.{take}
+use Rattle.regular.specs.Runs.{Runs, Agree}
+use Rattle.regular.specs.Pattern.{Pattern, Better, LessAberration}
+use Rattle.regular.specs.Columns.{planOf}
+use Rattle.regular.specs.Refusals.{either, Lowest, Chooses, HandsBack}
+use Rattle.words.specs.Switches.{agree-sym, pattern-agree}
+use Rattle.counts.specs.Patterns.{pattern-unique}
+use Rattle.admission.specs.Admission.{Admission}
+use Rattle.measures.specs.Ready.{Ready}
+use Rattle.measures.specs.Measured.{ready}
+use Rattle.regular.specs.RefusalLaws.{lowest-unique, Lower, lowest-lower, lower-none}
+
+-- the better of two patterns is better in every pair of lists that hold them
+better-same : (n m : ℕ) (s t : Runs) (p q u v : List ℕ) → m ≤ n → Pattern n t p → Pattern n s q → Pattern n t u → Pattern n s v → Better m u v → Better m p q
+better-same n m s t p q u v h tp sq tu sv b =
+    let f = b .from in
+    let e = b .to in
+    record {
+      at = b .at;
+      from = f;
+      to = e;
+      before = λ l low less. pattern-unique n t p u tp tu l (omega arith) (omega arith) ∙ b .before l low less ∙ pattern-unique n s v q sv sq l (omega arith) (omega arith);
+      fewer = omega (arith, b .fewer, pattern-unique n t p u tp tu (b .at) (omega arith) (omega arith), pattern-unique n s q v sq sv (b .at) (omega arith) (omega arith));
+    }
+
+pub less-better : (n m : ℕ) (t s : Runs) (p q : List ℕ) → m ≤ n → Pattern n t p → Pattern n s q → LessAberration n m t s → Better m p q
+less-better n m t s p q h tp sq l = better-same n m s t p q (l .p) (l .q) h tp sq (l .of-t) (l .of-s) (l .better)
+
+-- plans with the same runs
+pub less-agree : (n m : ℕ) (t s u v : Runs) → Agree t u → Agree s v → LessAberration n m t s → LessAberration n m u v
+less-agree n m t s u v a b l =
+    record { p = l .p; q = l .q; of-t = pattern-agree n t u a (l .p) (l .of-t); of-s = pattern-agree n s v b (l .q) (l .of-s); better = l .better }
+
+-- the lists of two admitted plans s and t, of which one is handed back; r is the call's number
+module _ {F H : ℕ → Type 0} {n g : ℕ} {s t : Runs} {x y : ℕ} {a b : List ℕ} {r : ℕ} (p : Admission F n g s x a) (q : Admission H n g t y b) (l : Lower x y r) where
+  low : Lowest (either F H) r
+  low = lowest-lower F H x y r (p .lowest) (q .lowest) l
+
+  pub both-ready : r ≡ 0 → Ready n g a × Ready n g b
+  both-ready e = let z = lower-none x y r l e in (ready p (z .0), ready q (z .1))
+
+  into : r ≡ 0 → LessAberration n (n - g) (planOf n (n - g) b) (planOf n (n - g) a) → LessAberration n (n - g) t s
+  into e =
+      let z = lower-none x y r l e in
+      less-agree n (n - g) (planOf n (n - g) b) (planOf n (n - g) a) t s
+      (agree-sym t (planOf n (n - g) b) (q .standard (z .1) .plan)) (agree-sym s (planOf n (n - g) a) (p .standard (z .0) .plan))
+
+  onto : r ≡ 0 → LessAberration n (n - g) t s → LessAberration n (n - g) (planOf n (n - g) b) (planOf n (n - g) a)
+  onto e =
+      let z = lower-none x y r l e in
+      less-agree n (n - g) t s (planOf n (n - g) b) (planOf n (n - g) a) (q .standard (z .1) .plan) (p .standard (z .0) .plan)
+
+  -- one is refused
+  pub chooses-none : (r ≡ 0 → ⊥) → Chooses (either F H) (LessAberration n (n - g) t s) 0
+  chooses-none some = Chooses.refused r (omega (arith, some)) low
+
+  pub chooses-second : r ≡ 0 → LessAberration n (n - g) (planOf n (n - g) b) (planOf n (n - g) a) → Chooses (either F H) (LessAberration n (n - g) t s) 2
+  chooses-second e less = Chooses.second (subst (Lowest (either F H)) e low) (into e less)
+
+  pub chooses-first : r ≡ 0 → (LessAberration n (n - g) (planOf n (n - g) b) (planOf n (n - g) a) → ⊥) → Chooses (either F H) (LessAberration n (n - g) t s) 1
+  chooses-first e none = Chooses.first (subst (Lowest (either F H)) e low) (λ less. none (onto e less))
+
+-- the list that is handed back, by the choice r
+module _ {fault : ℕ → Type 0} {B : Type 0} {A : Type 0} {first second : A} {firstNow now : List ℕ} where
+  pub hands-start : {r : ℕ} {h : A} → Chooses fault B r → r ≡ 0 → now ≡ take 0 firstNow → HandsBack fault B first second h firstNow now
+  hands-start (Chooses.refused k p l) e w = record {
+    better = λ z _. absurd (omega (arith, lowest-unique fault k 0 l z));
+    otherwise = λ z _. absurd (omega (arith, lowest-unique fault k 0 l z));
+    refused = λ _ _ _. w;
+  }
+  hands-start (Chooses.first l none) e w = absurd (omega arith)
+  hands-start (Chooses.second l less) e w = absurd (omega arith)
+
+  pub hands-second : {r : ℕ} → Chooses fault B r → r ≡ 2 → HandsBack fault B first second second firstNow now
+  hands-second (Chooses.refused k p l) e = absurd (omega arith)
+  hands-second (Chooses.first l none) e = absurd (omega arith)
+  hands-second (Chooses.second l less) e = record { better = λ _ _. refl; otherwise = λ _ none. absurd (none less); refused = λ k h w. absurd (omega (arith, lowest-unique fault k 0 w l)) }
+
+  pub hands-first : {r : ℕ} → Chooses fault B r → (r ≡ 0 → ⊥) → (r ≡ 2 → ⊥) → HandsBack fault B first second first firstNow now
+  hands-first (Chooses.refused k p l) e w = absurd (e refl)
+  hands-first (Chooses.first l none) e w = record { better = λ _ less. absurd (none less); otherwise = λ _ _. refl; refused = λ k h w. absurd (omega (arith, lowest-unique fault k 0 w l)) }
+  hands-first (Chooses.second l less) e w = absurd (w refl)

@@ -1,0 +1,82 @@
+// The one of two lists of words whose plan has less aberration.
+ghost use mathlib.Core.Path.{_≡_};
+ghost use mathlib.Core.Bool.{true, false};
+ghost use Prim.Native.Nat.{ℕ, _-_};
+ghost use lib.ListN.{length, getD};
+ghost use Rattle.regular.specs.Words.{Generated};
+ghost use Rattle.regular.specs.Columns.{planOf};
+ghost use Rattle.regular.specs.Pattern.{LessAberration};
+ghost use Rattle.regular.specs.Refusals.{wordsFaults, either, Lowest, Chooses, HandsBack};
+ghost use Rattle.measures.specs.Ready.{Ready};
+ghost use Rattle.regular.specs.RefusalLaws.{Lower};
+
+// The smaller of two refusals' numbers, 0 being none.
+fn lower_of(a: u8, b: u8) -> u8
+    ensures { λ r. ⌜ Lower a b r ⌝ }
+{
+    if a == 0 {
+        return b;
+    }
+    if b == 0 {
+        return a;
+    }
+    if b < a {
+        return b;
+    }
+    a
+}
+
+// Whether the plan of the second standard columns has less aberration than that of the first.
+fn second_less(n: usize, g: usize, first: [u8; 16], second: [u8; 16]) -> bool
+    requires { ⌜ Ready n g first × Ready n g second ⌝ }
+    ensures { λ r. ⌜ (r ≡ true → LessAberration n (n - g) (planOf n (n - g) second) (planOf n (n - g) first))
+        × (r ≡ false → LessAberration n (n - g) (planOf n (n - g) second) (planOf n (n - g) first) → ⊥) ⌝ }
+{
+    let m = n - g;
+    let p = measures::pattern(n, g, first);
+    let q = measures::pattern(n, g, second);
+    patterns::better(m, q, p)
+}
+
+// The refusal's number, 0 if both lists are accepted.
+pub fn aberration_refusal(n: usize, g: usize, first: &[u16], second: &[u16]) -> u8
+    ensures { λ r. ⌜ Lowest (either (wordsFaults n g (now (first .entry))) (wordsFaults n g (now (second .entry)))) r ⌝ }
+{
+    let a = admission::admit_words(n, g, first);
+    let b = admission::admit_words(n, g, second);
+    lower_of(a.number, b.number)
+}
+
+// Which list's plan has less aberration: 2 the second, 1 the first, also if neither has; 0 if one is refused.
+pub fn choice(n: usize, g: usize, first: &[u16], second: &[u16]) -> u8
+    ensures { λ r. ⌜ Chooses (either (wordsFaults n g (now (first .entry))) (wordsFaults n g (now (second .entry))))
+        (LessAberration n (n - g) (Generated n g (now (second .entry))) (Generated n g (now (first .entry)))) r ⌝ }
+{
+    let a = admission::admit_words(n, g, first);
+    let b = admission::admit_words(n, g, second);
+    if lower_of(a.number, b.number) != 0 {
+        return 0;
+    }
+    let one = a.columns;
+    let two = b.columns;
+    if second_less(n, g, one, two) {
+        return 2;
+    }
+    1
+}
+
+// The list whose plan has less aberration, the first if neither has; the empty start of the first if one is refused.
+pub fn less_aberration<'a>(n: usize, g: usize, first: &'a [u16], second: &'a [u16]) -> &'a [u16]
+    ensures { λ r. ⌜ HandsBack (either (wordsFaults n g (now (first .entry))) (wordsFaults n g (now (second .entry))))
+        (LessAberration n (n - g) (Generated n g (now (second .entry))) (Generated n g (now (first .entry))))
+        (first .entry) (second .entry) r (now (first .entry)) (now r) ⌝ }
+{
+    let which = choice(n, g, first, second);
+    if which == 0 {
+        return &first[..0];
+    }
+    if which == 2 {
+        return second;
+    }
+    first
+}

@@ -1,0 +1,29 @@
+-- `forms::columns_of_runs` meets its contract: the admitted plan is the table's. Assumes nothing.
+use borrow.Author.Needs.{needs}
+use Rattle.forms.proofs.columns_of_runs.Statement.{statement}
+use Rattle.forms.proofs.columns_of_runs.Tie as tie
+use Rattle.forms.specs.Made.{columns-fills}
+use Rattle.regular.specs.Refusals.{runsFaults}
+use Rattle.regular.specs.Runs.{switched, runsOf}
+use lib.ListN.{getD}
+use Rattle.regular.specs.RefusalLaws.{runs-faults-most}
+
+admit-runs-requires : tie.Need-admit-runs-requires
+admit-runs-requires c κs = search needs
+
+lend-columns-requires : tie.Need-lend-columns-requires
+lend-columns-requires c κs = search needs
+
+same-length : tie.Need-same-length
+same-length c = search needs
+
+returns : tie.Need-returns
+returns c =
+    let a = c .before .before .before .before .before .before .before .args in
+    let q = c .before .before .before .before .admit-runs in
+    let l = c .before .before .lend-columns in
+    columns-fills (runsFaults (a .n) (a .g) (a .runs .now)) (a .n) (a .g) (switched (getD (a .runs .now) 0 0) (runsOf (a .runs .now))) (q .result .number) (q .result .columns) (q .ensures) (runs-faults-most (a .n) (a .g) (a .runs .now)) (a .out .now) (l .last .1 .1 .1 .0) (l .result) (l .ensures)
+
+pub columns-of-runs-spec : {M : Type 1} → statement M
+columns-of-runs-spec =
+    tie.close (tie.spec admit-runs-requires lend-columns-requires same-length returns)

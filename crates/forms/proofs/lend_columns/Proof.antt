@@ -1,0 +1,33 @@
+-- `forms::lend_columns` meets its contract: a refusal is passed on, any other plan lends its columns. Assumes nothing.
+use mathlib.Core.Path.{subst, sym}
+use borrow.Author.Needs.{needs}
+use Rattle.forms.proofs.lend_columns.Statement.{statement}
+use Rattle.forms.proofs.lend_columns.Tie as tie
+use Rattle.lent.specs.Lends.{lends-refused, Lends}
+use Rattle.forms.specs.Made.{ColumnsAt}
+use Prim.Native.Nat.{ℕ}
+
+returns : tie.Need-returns
+returns c =
+    let a = c .before .before .args in
+    let t = c .if1 .taken in
+    lends-refused (a .plan .number) (a .n) (ColumnsAt (a .n) (a .plan .columns)) (a .out .now) t
+
+lend-first-requires : tie.Need-lend-first-requires
+lend-first-requires c κs =
+    let p = c .before .before .before .before .pre in
+    let t = c .before .before .if1 .left in
+    p t .most
+
+same-length : tie.Need-same-length
+same-length c = search needs
+
+returns-2 : tie.Need-returns-2
+returns-2 c =
+    let a = c .before .before .before .before .before .before .before .args in
+    let l = c .before .before .lend-first in
+    let t = c .before .before .before .before .before .if1 .left in
+    subst (λ (k : ℕ). Lends k (a .n) (ColumnsAt (a .n) (a .plan .columns)) (a .out .now) (l .last .1 .1 .0) (l .result)) (sym t) (l .ensures)
+
+pub lend-columns-spec : {M : Type 1} → statement M
+lend-columns-spec = tie.close (tie.spec returns lend-first-requires same-length returns-2)

@@ -1,0 +1,37 @@
+-- `forms::lend_first` meets its contract: a part of the array is lent on. Assumes nothing.
+use mathlib.Core.Path.{sym}
+use borrow.Author.Needs.{needs}
+use Rattle.forms.proofs.lend_first.Statement.{statement}
+use Rattle.forms.proofs.lend_first.Tie as tie
+use Rattle.lent.specs.Lends.{lends-part}
+use lib.Seq.{length-take-le}
+
+array-share-prefix-columns : tie.Need-array-share-prefix-columns
+array-share-prefix-columns c = search needs
+
+slice-aggregate-lend-bytes : tie.Need-slice-aggregate-lend-bytes
+slice-aggregate-lend-bytes c =
+    let a = c .before .before .args in
+    sym (length-take-le (a .n) (a .t2) (search needs))
+
+lend-bytes-requires : tie.Need-lend-bytes-requires
+lend-bytes-requires c κs = search needs
+
+same-length : tie.Need-same-length
+same-length c = search needs
+
+returns : tie.Need-returns
+returns c =
+    let a = c .before .before .before .before .before .before .args in
+    let l = c .before .before .lend-bytes in
+    lends-part (a .n) (a .t2) (a .out .now) (l .last .1 .0) (l .result) (sym (length-take-le (a .n) (a .t2) (search needs))) (l .ensures)
+
+pub lend-first-spec : {M : Type 1} → statement M
+lend-first-spec =
+    tie.close
+    (tie.spec
+    array-share-prefix-columns
+    slice-aggregate-lend-bytes
+    lend-bytes-requires
+    same-length
+    returns)

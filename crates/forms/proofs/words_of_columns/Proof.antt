@@ -1,0 +1,29 @@
+-- `forms::words_of_columns` meets its contract: the admitted plan is the columns'. Assumes nothing.
+use borrow.Author.Needs.{needs}
+use Rattle.forms.proofs.words_of_columns.Statement.{statement}
+use Rattle.forms.proofs.words_of_columns.Tie as tie
+use Rattle.forms.specs.Made.{words-fills}
+use Rattle.regular.specs.Refusals.{columnsFaults}
+use Rattle.regular.specs.Columns.{planOf}
+use Prim.Native.Nat.{_-_}
+use Rattle.regular.specs.RefusalLaws.{columns-faults-most}
+
+admit-columns-requires : tie.Need-admit-columns-requires
+admit-columns-requires c κs = search needs
+
+lend-words-requires : tie.Need-lend-words-requires
+lend-words-requires c κs = search needs
+
+same-length : tie.Need-same-length
+same-length c = search needs
+
+returns : tie.Need-returns
+returns c =
+    let a = c .before .before .before .before .before .before .before .args in
+    let q = c .before .before .before .before .admit-columns in
+    let l = c .before .before .lend-words in
+    words-fills (columnsFaults (a .n) (a .g) (a .columns .now)) (a .n) (a .g) (planOf (a .n) (a .n - a .g) (a .columns .now)) (q .result .number) (q .result .columns) (q .ensures) (columns-faults-most (a .n) (a .g) (a .columns .now)) (a .out .now) (l .last .1 .1 .1 .0) (l .result) (l .ensures)
+
+pub words-of-columns-spec : {M : Type 1} → statement M
+words-of-columns-spec =
+    tie.close (tie.spec admit-columns-requires lend-words-requires same-length returns)

@@ -1,0 +1,29 @@
+-- `forms::words_of_design` meets its contract: the admitted plan is the record's. Assumes nothing.
+use borrow.Author.Needs.{needs}
+use Rattle.forms.proofs.words_of_design.Statement.{statement}
+use Rattle.forms.proofs.words_of_design.Tie as tie
+use Rattle.forms.specs.Made.{words-fills}
+use Rattle.regular.specs.Refusals.{designFaults}
+use Rattle.regular.specs.Columns.{planOf}
+use Prim.Native.Nat.{_-_}
+use Rattle.regular.specs.RefusalLaws.{design-faults-most}
+
+admit-design-requires : tie.Need-admit-design-requires
+admit-design-requires c κs = search needs
+
+lend-words-requires : tie.Need-lend-words-requires
+lend-words-requires c κs = search needs
+
+same-length : tie.Need-same-length
+same-length c = search needs
+
+returns : tie.Need-returns
+returns c =
+    let a = c .before .before .before .before .before .before .args in
+    let q = c .before .before .before .before .admit-design in
+    let l = c .before .before .lend-words in
+    words-fills (designFaults (a .n) (a .g) (a .design)) (a .n) (a .g) (planOf (a .n) (a .n - a .g) (a .design .columns)) (q .result .number) (q .result .columns) (q .ensures) (design-faults-most (a .n) (a .g) (a .design)) (a .out .now) (l .last .1 .1 .1 .0) (l .result) (l .ensures)
+
+pub words-of-design-spec : {M : Type 1} → statement M
+words-of-design-spec =
+    tie.close (tie.spec admit-design-requires lend-words-requires same-length returns)

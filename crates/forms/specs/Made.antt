@@ -1,0 +1,108 @@
+-- What is made of an admitted plan, in the terms of its standard columns, and that this is what the calls promise.
+use Prim.Native.Nat.{ℕ, _-_, _^_, _≤_, _<_}
+use mathlib.Core.Path.{_≡_, refl, sym, subst, _∙_}
+use mathlib.Core.List.{List}
+use native.Mathlib.Omega.{arith}
+use lib.ListN.{getD, replicate}
+use Rattle.regular.specs.Runs.{Runs}
+use Rattle.regular.specs.Words.{Reduced}
+use Rattle.regular.specs.Columns.{StandardColumns, RunTable, RunsOfPlan, Listed}
+use Rattle.regular.specs.Designs.{Holds, blank}
+use Rattle.regular.specs.Refusals.{Gives, LentFault, either, Fills}
+use Rattle.regular.specs.declared.Design.{Design}
+use Rattle.words.specs.Standards.{form-standard, standard-cols}
+use Rattle.standard.specs.Runs.{run-cols}
+use Rattle.words.specs.WordList.{wordsTo}
+use Rattle.words.specs.ReducedUnique.{generators-reduced}
+use Rattle.lent.specs.Lends.{Lends, lends-means, lends-fills}
+use Rattle.admission.specs.Admission.{Admission}
+
+-- the record of standard columns
+pub record DesignMade (n m number : ℕ) (a : List ℕ) (r : ℕ) (d : Design) : Type 0 where
+  pub same : r ≡ number
+  pub refused : 0 < number → d ≡ blank
+  pub made : number ≡ 0 → d ≡ record { factors = n; basics = m; columns = a }
+
+-- the first g places hold the reduced words of standard columns
+abbrev pub WordsAt : ℕ → ℕ → List ℕ → List ℕ → Type 0
+WordsAt n g a zs = (i : ℕ) → i < g → getD zs i 0 ≡ getD (wordsTo a n) i 0
+
+-- the first n places hold the columns
+abbrev pub ColumnsAt : ℕ → List ℕ → List ℕ → Type 0
+ColumnsAt n a zs = (f : ℕ) → f < n → getD zs f 0 ≡ getD a f 0
+
+-- the run table of columns
+pub record RunsMade (n m number : ℕ) (c : List ℕ) (r : ℕ) (t : List ℕ) : Type 0 where
+  pub same : r ≡ number
+  pub refused : 0 < number → t ≡ replicate 128 0
+  pub made : number ≡ 0 → RunTable n m c t
+
+module _ (fault : ℕ → Type 0) (n g : ℕ) (s : Runs) (number : ℕ) (a : List ℕ) (ad : Admission fault n g s number a) where
+  -- a design record
+  pub design-gives : (r : ℕ) (d : Design) → DesignMade n (n - g) number a r d → Gives fault (Holds n (n - g) (StandardColumns n (n - g) s)) blank r d
+  design-gives r d h =
+      subst (λ (k : ℕ). Gives fault (Holds n (n - g) (StandardColumns n (n - g) s)) blank k d) (sym (h .same))
+      (record {
+        number = ad .lowest;
+        refused = h .refused;
+        result = λ e. subst (Holds n (n - g) (StandardColumns n (n - g) s)) (sym (h .made e))
+            (record {
+              factors = refl;
+              basics = refl;
+              columns = form-standard n (n - g) s a (ad .standard e);
+              unused = λ f l _. ad .unused e f l;
+            });
+      })
+
+  -- words, in a lent list
+  pub words-fills : ((j : ℕ) → fault j → j ≤ 7) → (ys zs : List ℕ) (r : ℕ) → Lends number g (WordsAt n g a) ys zs r
+      → Fills (either fault (LentFault g ys)) g (Reduced n g s) ys zs r
+  words-fills most ys zs r l =
+      lends-fills fault number g (Reduced n g s) ys zs r most (ad .lowest)
+      (lends-means number g (WordsAt n g a) (Reduced n g s) ys zs r
+      (λ e w.
+      let z = ad .size e in
+      let q : n - (n - g) ≡ g = omega (arith, z .less) in
+      subst (λ (k : ℕ). Reduced n k s zs) q (generators-reduced n (n - g) s a zs (ad .standard e) (λ i h. w i (omega arith))))
+      l)
+
+  -- columns, in a lent list
+  pub columns-fills : ((j : ℕ) → fault j → j ≤ 7) → (ys zs : List ℕ) (r : ℕ) → Lends number n (ColumnsAt n a) ys zs r
+      → Fills (either fault (LentFault n ys)) n (StandardColumns n (n - g) s) ys zs r
+  columns-fills most ys zs r l =
+      lends-fills fault number n (StandardColumns n (n - g) s) ys zs r most (ad .lowest)
+      (lends-means number n (ColumnsAt n a) (StandardColumns n (n - g) s) ys zs r
+      (λ e w. form-standard n (n - g) s zs (standard-cols n (n - g) s a zs (ad .standard e) (λ f h. sym (w f h))))
+      l)
+
+  -- the runs of standard columns: an array, or a lent list
+  pub runs-gives : (r : ℕ) (t : List ℕ) → RunsMade n (n - g) number a r t → Gives fault (RunsOfPlan n (n - g) RunTable s) (replicate 128 0) r t
+  runs-gives r t h =
+      subst (λ (k : ℕ). Gives fault (RunsOfPlan n (n - g) RunTable s) (replicate 128 0) k t) (sym (h .same))
+      (record {
+        number = ad .lowest;
+        refused = h .refused;
+        result = λ e. record { columns = a; standard = form-standard n (n - g) s a (ad .standard e); table = h .made e };
+      })
+
+  pub runs-fills : ((j : ℕ) → fault j → j ≤ 7) → (ys zs : List ℕ) (r : ℕ) → Lends number (2 ^ (n - g)) (Listed n (n - g) a) ys zs r
+      → Fills (either fault (LentFault (2 ^ (n - g)) ys)) (2 ^ (n - g)) (RunsOfPlan n (n - g) Listed s) ys zs r
+  runs-fills most ys zs r l =
+      lends-fills fault number (2 ^ (n - g)) (RunsOfPlan n (n - g) Listed s) ys zs r most (ad .lowest)
+      (lends-means number (2 ^ (n - g)) (Listed n (n - g) a) (RunsOfPlan n (n - g) Listed s) ys zs r
+      (λ e w. record { columns = a; standard = form-standard n (n - g) s a (ad .standard e); table = w })
+      l)
+
+  -- the runs of the columns given, of the same plan
+  pub given-gives : (c : List ℕ) (r : ℕ) (t : List ℕ) → RunsMade n (n - g) number c r t → Gives fault (RunTable n (n - g) c) (replicate 128 0) r t
+  given-gives c r t h =
+      subst (λ (k : ℕ). Gives fault (RunTable n (n - g) c) (replicate 128 0) k t) (sym (h .same))
+      (record { number = ad .lowest; refused = h .refused; result = h .made })
+
+  pub given-fills : ((j : ℕ) → fault j → j ≤ 7) → (c d ys zs : List ℕ) (r : ℕ) → ((f : ℕ) → getD c f 0 ≡ getD d f 0) → Lends number (2 ^ (n - g)) (Listed n (n - g) c) ys zs r
+      → Fills (either fault (LentFault (2 ^ (n - g)) ys)) (2 ^ (n - g)) (Listed n (n - g) d) ys zs r
+  given-fills most c d ys zs r same l =
+      lends-fills fault number (2 ^ (n - g)) (Listed n (n - g) d) ys zs r most (ad .lowest)
+      (lends-means number (2 ^ (n - g)) (Listed n (n - g) c) (Listed n (n - g) d) ys zs r
+      (λ e w j h. w j h ∙ run-cols c d n j (λ f _. same f))
+      l)

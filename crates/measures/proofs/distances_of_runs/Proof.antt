@@ -1,0 +1,30 @@
+-- `measures::distances_of_runs` meets its contract: the plan with its first run switched to high is admitted; its distances from there are those from the first run. Assumes nothing.
+use borrow.Author.Needs.{needs}
+use lib.ListN.{getD}
+use Rattle.regular.specs.RefusalLaws.{runs-faults-most}
+use Rattle.regular.specs.Runs.{runsOf}
+use Rattle.measures.specs.Measured.{ready, distances-switches}
+use Rattle.measures.proofs.distances_of_runs.Statement.{statement}
+use Rattle.measures.proofs.distances_of_runs.Tie as tie
+
+admit-runs-requires : tie.Need-admit-runs-requires
+admit-runs-requires c κs = search needs
+
+lend-distances-requires : tie.Need-lend-distances-requires
+lend-distances-requires c κs =
+    let p = c .before .admit-runs in
+    ready (p .ensures)
+
+same-length : tie.Need-same-length
+same-length c = search needs
+
+returns : tie.Need-returns
+returns c =
+    let a = c .before .before .before .before .before .before .before .args in
+    let p = c .before .before .before .before .admit-runs in
+    let l = c .before .before .lend-distances in
+    distances-switches (getD (a .runs .now) 0 0) (runsOf (a .runs .now)) (p .ensures) (runs-faults-most (a .n) (a .g) (a .runs .now)) (l .ensures)
+
+pub distances-of-runs-spec : {M : Type 1} → statement M
+distances-of-runs-spec =
+    tie.close (tie.spec admit-runs-requires lend-distances-requires same-length returns)

@@ -1,0 +1,28 @@
+-- `measures::distances_of_words` meets its contract: the plan is admitted, and has the distance counts of its standard columns. Assumes nothing.
+use borrow.Author.Needs.{needs}
+use Rattle.regular.specs.RefusalLaws.{words-faults-most}
+use Rattle.measures.specs.Measured.{ready, distances-fills}
+use Rattle.measures.proofs.distances_of_words.Statement.{statement}
+use Rattle.measures.proofs.distances_of_words.Tie as tie
+
+admit-words-requires : tie.Need-admit-words-requires
+admit-words-requires c κs = search needs
+
+lend-distances-requires : tie.Need-lend-distances-requires
+lend-distances-requires c κs =
+    let p = c .before .admit-words in
+    ready (p .ensures)
+
+same-length : tie.Need-same-length
+same-length c = search needs
+
+returns : tie.Need-returns
+returns c =
+    let a = c .before .before .before .before .before .before .before .args in
+    let p = c .before .before .before .before .admit-words in
+    let l = c .before .before .lend-distances in
+    distances-fills (p .ensures) (words-faults-most (a .n) (a .g) (a .words .now)) (l .ensures)
+
+pub distances-of-words-spec : {M : Type 1} → statement M
+distances-of-words-spec =
+    tie.close (tie.spec admit-words-requires lend-distances-requires same-length returns)

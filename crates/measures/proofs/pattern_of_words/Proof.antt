@@ -1,0 +1,28 @@
+-- `measures::pattern_of_words` meets its contract: the plan is admitted, and has the pattern of its standard columns. Assumes nothing.
+use borrow.Author.Needs.{needs}
+use Rattle.regular.specs.RefusalLaws.{words-faults-most}
+use Rattle.measures.specs.Measured.{ready, pattern-fills}
+use Rattle.measures.proofs.pattern_of_words.Statement.{statement}
+use Rattle.measures.proofs.pattern_of_words.Tie as tie
+
+admit-words-requires : tie.Need-admit-words-requires
+admit-words-requires c κs = search needs
+
+lend-pattern-requires : tie.Need-lend-pattern-requires
+lend-pattern-requires c κs =
+    let p = c .before .admit-words in
+    ready (p .ensures)
+
+same-length : tie.Need-same-length
+same-length c = search needs
+
+returns : tie.Need-returns
+returns c =
+    let a = c .before .before .before .before .before .before .before .args in
+    let p = c .before .before .before .before .admit-words in
+    let l = c .before .before .lend-pattern in
+    pattern-fills (p .ensures) (words-faults-most (a .n) (a .g) (a .words .now)) (l .ensures)
+
+pub pattern-of-words-spec : {M : Type 1} → statement M
+pattern-of-words-spec =
+    tie.close (tie.spec admit-words-requires lend-pattern-requires same-length returns)
