@@ -1,0 +1,4 @@
+pub mod Matching
+pub mod Deciding
+pub mod Moving
+pub mod Settling

@@ -1,0 +1,118 @@
+-- The names of a claimed witness: n of them that are a renaming, read one after another against the names seen so far; and a run renamed factor
+-- by factor.
+use mathlib.Core.Path.{_≡_, refl, sym, ap, ap₂, _∙_, subst}
+use mathlib.Core.Logic.{by-cases}
+use mathlib.Core.List.{List}
+use Prim.Native.Nat.{ℕ, zero, suc, _+_, _*_, _%_, _^_, _≤_, _<_}
+use native.Mathlib.Omega.{arith}
+use native.Mathlib.Numerals.{add-one}
+use native.Mathlib.Decide.{ℕ-discrete}
+use borrow.Author.Count.{below-more}
+use lib.Bits.{bitXor}
+use lib.ListN.{length, getD}
+use lib.Pow.{pow-mono, shl-exact}
+use Rattle.gf2.specs.Digits.{bit}
+use Rattle.gf2.specs.DigitLaws.{bit-xor, bit-none}
+use Rattle.regular.specs.Same.{moved, Renaming}
+use Rattle.isomorphism_laws.specs.Put.{mark-own, mark-other}
+use Rattle.isomorphism_laws.specs.Renamings.{moved-lt}
+
+-- n names, each of the n factors being used once
+pub record Named (n : ℕ) (p : List ℕ) : Type 0 where
+  pub count : length p ≡ n
+  pub renaming : Renaming n p
+
+-- the first f names are factors, each used once, and `seen` has the bits that they name
+pub record Used (n : ℕ) (p : List ℕ) (f seen : ℕ) : Type 0 where
+  pub within : (g : ℕ) → g < f → getD p g 0 < n
+  pub once : (g h : ℕ) → g < f → h < f → getD p g 0 ≡ getD p h 0 → g ≡ h
+  pub marked : (g : ℕ) → g < f → bit (getD p g 0) seen ≡ 1
+  pub only : (e : ℕ) → bit e seen ≡ 1 → (g : ℕ) × ((g < f) × (getD p g 0 ≡ e))
+
+pub used-none : (n : ℕ) (p : List ℕ) → Used n p 0 0
+used-none n p = record {
+  within = λ g h. absurd (omega arith);
+  once = λ g h l k e. absurd (omega arith);
+  marked = λ g h. absurd (omega arith);
+  only = λ e h. absurd (omega (arith, bit-none e));
+}
+
+-- the next name
+module _ (n : ℕ) (p : List ℕ) (f seen name : ℕ) (s : Used n p f seen) (is : name ≡ getD p f 0) where
+  -- it is out of range
+  pub past-not : f < n → n ≤ name → Named n p → ⊥
+  past-not h l w = omega (arith, is, w .renaming .within f h)
+
+  -- it is seen already
+  pub twice-not : f < n → bit name seen ≡ 1 → Named n p → ⊥
+  twice-not h b w =
+      let g = s .only name b in
+      let l = g .1 .0 in
+      omega (arith, w .renaming .once (g .0) f (omega arith) h (g .1 .1 ∙ is))
+
+  -- it is new
+  module _ (low : name < n) (free : bit name seen ≡ 0) where
+    apart : (g : ℕ) → g < f → getD p g 0 ≡ name → ⊥
+    apart g h e = let b : bit name seen ≡ 1 = subst (λ (i : ℕ). bit i seen ≡ 1) e (s .marked g h) in omega arith
+
+    own : bit name (bitXor seen (2 ^ name)) ≡ 1
+    own = bit-xor name seen (2 ^ name) ∙ ap₂ (λ (a b : ℕ). (a + b) % 2) free (mark-own name)
+
+    other : (e : ℕ) → (e ≡ name → ⊥) → bit e (bitXor seen (2 ^ name)) ≡ bit e seen
+    other e ne = bit-xor e seen (2 ^ name) ∙ omega (arith, mark-other e name ne)
+
+    named : (g : ℕ) → g ≡ f → getD p g 0 ≡ name
+    named g e = ap (λ (i : ℕ). getD p i 0) e ∙ sym is
+
+    pub used-more : Used n p (f + 1) (bitXor seen (2 ^ name))
+    used-more = record {
+      within = below-more _ _ (s .within) (omega (arith, is));
+      once = λ g h l k e. by-cases (ℕ-discrete g f)
+          (λ a. by-cases (ℕ-discrete h f) (λ b. a ∙ sym b) (λ b. absurd (apart h (omega arith) (sym e ∙ named g a))))
+          (λ a. by-cases (ℕ-discrete h f) (λ b. absurd (apart g (omega arith) (e ∙ named h b))) (λ b. s .once g h (omega arith) (omega arith) e));
+      marked = below-more _ _ (λ g h. other (getD p g 0) (apart g h) ∙ s .marked g h)
+          (subst (λ (i : ℕ). bit i (bitXor seen (2 ^ name)) ≡ 1) is own);
+      only = λ e b. by-cases (ℕ-discrete e name)
+          (λ a. (f, (omega arith, sym (a ∙ is))))
+          (λ a. let g = s .only e (sym (other e a) ∙ b) in (g .0, (omega (arith, g .1 .0), g .1 .1)));
+    }
+
+-- all names read
+pub used-all : (n : ℕ) (p : List ℕ) (f seen : ℕ) → length p ≡ n → n ≤ f → Used n p f seen → Named n p
+used-all n p f seen e l s = record {
+  count = e;
+  renaming = record { within = λ g h. s .within g (omega arith); once = λ g h j k q. s .once g h (omega arith) (omega arith) q };
+}
+
+-- a run renamed factor by factor: no factor, one more, and never more than the whole
+pub moved-none : (p : List ℕ) (x : ℕ) → moved p 0 x ≡ 0
+unfolding moved
+moved-none p x = refl
+
+moved-more : (p : List ℕ) (f x : ℕ) → moved p (f + 1) x ≡ moved p f x + bit f x * 2 ^ getD p f 0
+unfolding moved
+moved-more p f x = ap (λ (k : ℕ). moved p k x) (add-one f)
+
+moved-most : (p : List ℕ) (x n f : ℕ) → f ≤ n → moved p f x ≤ moved p n x
+unfolding moved
+moved-most p x zero f h = let e : f ≡ 0 = omega arith in rw e (omega arith)
+moved-most p x (suc n) f h = by-cases (ℕ-discrete f (suc n)) (λ e. rw e (omega arith)) (λ ne. omega (arith, moved-most p x n f (omega arith)))
+
+-- a level shifted to a place of 16 bits loses nothing
+shift-fits : (b name : ℕ) → b < 2 → name < 16 → b * 2 ^ name % 65536 ≡ b * 2 ^ name
+shift-fits b name h l = shl-exact 1 name 16 h (omega arith)
+
+-- the bit that a name has in `seen`
+pub mark-fits : (name : ℕ) → name < 16 → 1 * 2 ^ name % 65536 ≡ 2 ^ name
+mark-fits name l = shift-fits 1 name (omega arith) l ∙ omega arith
+
+-- the level b of factor f added at its name, in 16 bits
+module _ (n : ℕ) (p : List ℕ) (f x : ℕ) (h : n ≤ 16) (w : Named n p) (l : f < n) (y b name : ℕ) (e : y ≡ moved p f x) (eb : b ≡ bit f x) (en : name ≡ getD p f 0) where
+  pub moved-step : y + b * 2 ^ name % 65536 ≡ moved p (f + 1) x
+  moved-step =
+      ap (λ (k : ℕ). y + k) (shift-fits b name (omega arith) (omega (arith, w .renaming .within f l)))
+      ∙ ap₂ (λ (a k : ℕ). a + k) e (ap₂ (λ (a k : ℕ). a * 2 ^ k) eb en)
+      ∙ sym (moved-more p f x)
+
+  pub moved-fits : y + b * 2 ^ name % 65536 < 65536
+  moved-fits = omega (arith, moved-step, moved-most p x n (f + 1) (omega arith), moved-lt n p (w .renaming) x, pow-mono {i = n} {j = 16} h)

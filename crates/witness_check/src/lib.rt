@@ -1,0 +1,129 @@
+// The check of a claimed witness between two run tables.
+ghost use mathlib.Core.Path.{_≡_};
+ghost use mathlib.Core.Bool.{true, false};
+ghost use Prim.Native.Nat.{_^_, _≤_, _<_};
+ghost use lib.Bits.{bitXor};
+ghost use Rattle.gf2.specs.Answers.{Tells};
+ghost use Rattle.regular.specs.Same.{moved};
+ghost use Rattle.regular.specs.Refusals.{runsFaults, either};
+ghost use Rattle.regular.specs.RefusalLaws.{Lower};
+ghost use Rattle.regular.specs.Comparisons.{Witness, Checks};
+ghost use Rattle.witness_check.specs.Names.{Named};
+ghost use Rattle.witness_check.specs.Partners.{Partnered, NoPartner};
+use bits::level;
+use bits::power;
+use bits::wide;
+use bits::wide_byte;
+use regular::Checked;
+
+// The smaller of two refusals' numbers, 0 being none.
+fn lower_of(a: u8, b: u8) -> u8
+    ensures { λ r. ⌜ Lower a b r ⌝ }
+{
+    if a == 0 {
+        return b;
+    }
+    if b == 0 {
+        return a;
+    }
+    if b < a {
+        return b;
+    }
+    a
+}
+
+// Whether there are n names, each of the n factors being used once.
+fn each_once(n: usize, names: &[u8]) -> bool
+    requires { ⌜ n ≤ 16 ⌝ }
+    ensures { λ r. ⌜ Tells r (Named n (now (names .entry))) (Named n (now (names .entry)) → ⊥) ⌝ }
+{
+    if names.len() != n {
+        return false;
+    }
+    let mut seen: u16 = 0;
+    let mut f = 0;
+    while f < n {
+        let name = wide_byte(names[f]);
+        if n <= name {
+            return false;
+        }
+        if level(seen, name) == 1 {
+            return false;
+        }
+        seen = seen ^ (1u16 << name);
+        f += 1;
+    }
+    true
+}
+
+// The run x with the level of each factor moved to its new name.
+fn renamed(n: usize, names: &[u8], x: u16) -> u16
+    requires { ⌜ (n ≤ 16) × Named n (now names) ⌝ }
+    ensures { λ r. ⌜ r ≡ moved (now (names .entry)) n x ⌝ }
+{
+    let mut y: u16 = 0;
+    let mut f = 0;
+    while f < n {
+        let name = wide_byte(names[f]);
+        y = y + (level(x, f) << name);
+        f += 1;
+    }
+    y
+}
+
+// Whether every run of the first table, renamed and switched, is a run of the second. The first run without a partner there ends both loops.
+fn partnered(n: usize, first: &[u16], second: &[u16], names: &[u8], mask: u16) -> bool
+    requires { ⌜ (n ≤ 16) × Named n (now names) ⌝ }
+    ensures { λ r. ⌜ Tells r (Partnered n (now (first .entry)) (now (second .entry)) (now (names .entry)) mask)
+        (NoPartner n (now (first .entry)) (now (second .entry)) (now (names .entry)) mask) ⌝ }
+{
+    let mut answer = true;
+    let mut i = 0;
+    'runs: while i < first.len() {
+        let x = first[i];
+        let y = renamed(n, names, x) ^ mask;
+        let mut j = 0;
+        loop {
+            if second.len() <= j {
+                answer = false;
+                break 'runs;
+            }
+            if second[j] == y {
+                break;
+            }
+            j += 1;
+        }
+        i += 1;
+    }
+    answer
+}
+
+// Whether renaming by the names and then switching by the mask turns the first table's set of runs into the second's.
+pub fn check_witness(
+    n: usize,
+    g: usize,
+    first: &[u16],
+    second: &[u16],
+    names: &[u8],
+    mask: u16,
+) -> Checked
+    ensures { λ r. ⌜ Checks (either (runsFaults n g (now (first .entry))) (runsFaults n g (now (second .entry))))
+        (Witness n (now (first .entry)) (now (second .entry)) (now (names .entry)) mask) r ⌝ }
+{
+    let a = admission::admit_runs(n, g, first);
+    let b = admission::admit_runs(n, g, second);
+    let number = lower_of(a.number, b.number);
+    if number != 0 {
+        return Checked::Refused(number);
+    }
+    if !each_once(n, names) {
+        return Checked::No;
+    }
+    if power(n) <= wide(mask) {
+        return Checked::No;
+    }
+    if !partnered(n, first, second, names, mask) {
+        return Checked::No;
+    }
+    Checked::Yes
+}
