@@ -1,0 +1,102 @@
+-- Laws of the loop over design records. Assumes nothing.
+use mathlib.Core.Path.{_≡_, refl, sym, ap, subst, _∙_}
+use mathlib.Core.Logic.{by-cases}
+use mathlib.Core.Bool.{Bool, true, false, not}
+use mathlib.Core.List.{List, []}
+use Prim.Native.Nat.{ℕ, _+_, _-_, _≤_, _<_}
+use native.Mathlib.Decide.{ℕ-discrete}
+use native.Mathlib.Omega.{arith}
+use borrow.Author.Tests.{ltb-true, ltb-false}
+use lib.Dec.{T, ltb}
+use lib.ListN.{length, getD, drop, set, length-set}
+use lib.Seq.{getD-set-same, getD-set-other, drop-set-lt, drop-drop}
+use Rattle.regular.specs.Designs.{blank}
+use Rattle.regular.specs.declared.Design.{Design}
+use Rattle.regular.specs.Smallest.{Entry}
+use Rattle.catalogue.specs.declared.Listed.{Listed}
+use Rattle.catalogue.specs.Lists.{ListsDesigns}
+use Rattle.catalogue.specs.Turns.{Turned}
+use Rattle.catalogue.specs.Records.{Head, Stepped, Listing}
+use Rattle.catalogue.proofs.Turns.{with-entry, with-same, with-other, progress-none, progress-more, stopped, clash}
+
+pub holds : (t : Bool) → T t → t ≡ true
+holds true _ = refl
+holds false a = absurd a
+
+pub fails : (t : Bool) → T (not t) → t ≡ false
+fails true a = absurd a
+fails false _ = refl
+
+-- what a turn answers
+module _ (n g r i len : ℕ) (c : Design) where
+  pub stepped-stops : (found : Bool) (number : ℕ) (d : List ℕ) → Turned n g r i (ltb i len) (c .columns) found number d → found ≡ false
+      → Stepped n g r i len c (record { found = false; design = c; answer = record { number = number; count = i } })
+  stepped-stops found number d t e = record {
+    goes = λ q. absurd (clash (sym q));
+    head = λ q. absurd (clash (sym q));
+    stops = λ _. t .stops e;
+    count = refl;
+  }
+
+  pub stepped-goes : (found : Bool) (number : ℕ) (d : List ℕ) (f b : ℕ) → f ≡ n → b ≡ n - g → Turned n g r i (ltb i len) (c .columns) found number d → found ≡ true
+      → Stepped n g r i len c (record { found = true; design = record { factors = f; basics = b; columns = d }; answer = record { number = 0; count = i } })
+  stepped-goes found number d f b p q t e = record {
+    goes = λ _. t .goes e;
+    head = λ _. record { factors = p; basics = q };
+    stops = λ y. absurd (clash y);
+    count = refl;
+  }
+
+-- the loop
+pub listing-none : (n g r : ℕ) (ys : List Design) (c : Design) → Listing n g r ys ys 0 c
+listing-none n g r ys c = record {
+  all = λ _. [];
+  progress = progress-none n g r (λ _. []) (c .columns);
+  room = omega arith;
+  size = refl;
+  entries = λ j h. absurd (omega arith);
+  heads = λ j h. absurd (omega arith);
+  rest = refl;
+}
+
+module _ (n g r : ℕ) (ys zs : List Design) (i : ℕ) (c : Design) (x : Listing n g r ys zs i c) (s : Listed) (t : Stepped n g r i (length ys) c s) where
+  pub listing-room : s .found ≡ true → i < length ys
+  listing-room e = ltb-true i (length ys) (t .goes e .room)
+
+  pub listing-more : s .found ≡ true → Listing n g r ys (set zs i (s .design)) (i + 1) (s .design)
+  listing-more e =
+      let d = s .design in
+      let zs' = set zs i d in
+      let h = listing-room e in
+      let new : getD zs' i blank ≡ d = getD-set-same zs i d blank (omega (arith, x .size)) in
+      let old : (j : ℕ) → (j ≡ i → ⊥) → getD zs' j blank ≡ getD zs j blank = λ j ne. getD-set-other zs i j d blank ne in
+      record {
+        all = with-entry (x .all) i (d .columns);
+        progress = progress-more n g r i (x .all) (ltb i (length ys)) (c .columns) (d .columns) (x .progress) (t .goes e);
+        room = omega arith;
+        size = length-set zs i d ∙ x .size;
+        entries = λ j l. by-cases (ℕ-discrete j i)
+            (λ q. subst (λ (k : ℕ). with-entry (x .all) i (d .columns) k ≡ getD zs' k blank .columns) (sym q) (with-same (x .all) i (d .columns) ∙ ap (λ (y : Design). y .columns) (sym new)))
+            (λ ne. with-other (x .all) i (d .columns) j ne ∙ x .entries j (omega arith) ∙ ap (λ (y : Design). y .columns) (sym (old j ne)));
+        heads = λ j l. by-cases (ℕ-discrete j i)
+            (λ q. subst (λ (k : ℕ). Head n (n - g) (getD zs' k blank)) (sym q) (subst (λ (y : Design). Head n (n - g) y) (sym new) (t .head e)))
+            (λ ne. subst (λ (y : Design). Head n (n - g) y) (sym (old j ne)) (x .heads j (omega arith)));
+        rest = drop-set-lt (i + 1) zs i d (omega arith) ∙ sym (drop-drop 1 i zs) ∙ ap (drop 1) (x .rest) ∙ drop-drop 1 i ys;
+      }
+
+  pub listing-stops : s .found ≡ false → ListsDesigns n g r ys zs (s .answer .number) (s .answer .count)
+  listing-stops e = subst (λ (k : ℕ). ListsDesigns n g r ys zs (s .answer .number) k) (sym (t .count)) (record {
+    catalogues = stopped n g r (λ k. k ≤ length ys) (λ a b h l. omega arith) i (x .all) (c .columns) (x .progress) (x .room) (λ j. getD zs j blank .columns)
+        (λ j h f l. ap (λ (y : List ℕ). getD y f 0) (x .entries j h)) (s .answer .number) (ltb i (length ys)) (λ q l. omega (arith, ltb-false i (length ys) q)) (t .stops e);
+    records = λ j h.
+        let b = x .progress .begun j h .held in
+        let q = x .entries j h in
+        record {
+          factors = x .heads j h .factors;
+          basics = x .heads j h .basics;
+          columns = subst (λ (y : List ℕ). Entry n (n - g) r y) q (b .entry);
+          unused = λ f l _. ap (λ (y : List ℕ). getD y f 0) (sym q) ∙ b .rest f l;
+        };
+    rest = x .rest;
+    size = x .size;
+  })

@@ -1,0 +1,62 @@
+-- What a turn of the catalogue's loop needs and answers. Definitions only.
+use mathlib.Core.Path.{_≡_}
+use mathlib.Core.Bool.{Bool, true, false}
+use mathlib.Core.List.{List}
+use Prim.Native.Nat.{ℕ, _+_, _*_, _-_, _≤_, _<_}
+use lib.Dec.{ltb}
+use lib.ListN.{length, getD, drop}
+use Rattle.regular.specs.Refusals.{Lowest}
+use Rattle.regular.specs.Smallest.{Equal, Entry}
+use Rattle.smallest_laws.specs.Value.{value}
+use Rattle.catalogue_laws.specs.Steps.{Held, First, bound}
+use Rattle.catalogue_laws.specs.Walked.{Begun, edge}
+use Rattle.catalogue.specs.Faults.{Sized, sizeFaults}
+
+-- where the search for the i-th entry starts, c being the one before it
+abbrev pub from : ℕ → ℕ → List ℕ → ℕ
+from i n c = bound (ltb 0 i) n c
+
+-- before every turn but the first, c is an entry
+pub record Going (n g r i : ℕ) (c : List ℕ) : Type 0 where
+  pub sized : ltb 0 i ≡ true → Sized n g r
+  pub held : ltb 0 i ≡ true → Held n (n - g) r c
+
+-- d is the next entry, and has room
+pub record Goes (n g r i : ℕ) (left : Bool) (c d : List ℕ) : Type 0 where
+  pub room : left ≡ true
+  pub sized : Sized n g r
+  pub first : First n (n - g) r (from i n c) d
+
+-- the sizes are refused; or no entry is left; or one is left and has no room
+pub data Stops (n g r i : ℕ) (room : Bool) (c : List ℕ) : ℕ → Type 0 where
+  refused : (k : ℕ) → 0 < k → k ≤ 3 → Lowest (sizeFaults n g r) k → Stops n g r i room c k
+  ended : Sized n g r → ((e : List ℕ) → Entry n (n - g) r e → from i n c ≤ value n e → ⊥) → Stops n g r i room c 0
+  full : Sized n g r → room ≡ false → (d : List ℕ) → First n (n - g) r (from i n c) d → Stops n g r i room c 9
+
+pub record Turned (n g r i : ℕ) (room : Bool) (c : List ℕ) (found : Bool) (number : ℕ) (d : List ℕ) : Type 0 where
+  pub goes : found ≡ true → Goes n g r i room c d
+  pub stops : found ≡ false → Stops n g r i room c number
+
+-- after i turns: the first i entries, c being the last of them
+pub record Progress (n g r i : ℕ) (all : ℕ → List ℕ) (c : List ℕ) : Type 0 where
+  pub begun : Begun n (n - g) r i all
+  pub last : edge n all i ≡ from i n c
+  pub going : Going n g r i c
+
+-- w is v with the first n columns of c at the places from base on
+pub record Put (n : ℕ) (c : List ℕ) (base : ℕ) (v w : List ℕ) : Type 0 where
+  pub size : length w ≡ length v
+  pub new : (f : ℕ) → f < n → getD w (base + f) 0 ≡ getD c f 0
+  pub low : (j : ℕ) → j < base → getD w j 0 ≡ getD v j 0
+  pub rest : drop (base + n) w ≡ drop (base + n) v
+
+-- the loop over the bytes after i turns: the list w, filled up to base, was v
+pub record Filling (n g r : ℕ) (v w : List ℕ) (i base : ℕ) (c : List ℕ) : Type 0 where
+  pub all : ℕ → List ℕ
+  pub progress : Progress n g r i all c
+  pub place : base ≡ i * n
+  pub some : i ≤ base
+  pub room : base ≤ length v
+  pub size : length w ≡ length v
+  pub entries : (j : ℕ) → j < i → Equal n (all j) (drop (j * n) w)
+  pub rest : drop base w ≡ drop base v
