@@ -1,0 +1,290 @@
+// The functions that the C planner and the tests call: plain numbers and lists, no requires, and nothing but a call of the function that has the
+// same contract. include/planner.h says what each one means.
+ghost use mathlib.Core.Path.{_≡_};
+ghost use Prim.Native.Nat.{_+_, _-_, _^_, _<_};
+ghost use lib.ListN.{getD};
+ghost use Rattle.regular.specs.Runs.{runsOf, switched};
+ghost use Rattle.regular.specs.Words.{Generated, Reduced};
+ghost use Rattle.regular.specs.Columns.{planOf, Listed, RunsOfPlan, StandardColumns};
+ghost use Rattle.regular.specs.Pattern.{Pattern, Resolution, Distances, LessAberration};
+ghost use Rattle.regular.specs.Refusals.{wordsFaults, runsFaults, columnsFaults, LentFault, either, Lowest, Chooses, Fills};
+ghost use Rattle.regular.specs.Comparisons.{Compares, Checks, Witness, Told, comparedNumber, checkedNumber};
+ghost use Rattle.smallest_form.specs.Answers.{ReducesInto};
+ghost use Rattle.catalogue.specs.Lists.{ListsBytes};
+use catalogue::CatalogueAnswer;
+use regular::Checked;
+use regular::Compared;
+
+// Words to columns.
+#[no_mangle]
+pub extern "C" fn plan_columns_of_words(n: usize, g: usize, words: &[u16], columns: &mut [u8]) -> u8
+    ensures { λ r. ⌜ Fills (either (wordsFaults n g (now (words .entry))) (LentFault n (now (columns .entry)))) n
+        (StandardColumns n (n - g) (Generated n g (now (words .entry)))) (now (columns .entry)) (now (columns .exit)) r ⌝ }
+{
+    forms::columns_of_words(n, g, words, columns)
+}
+
+// Run table to columns.
+#[no_mangle]
+pub extern "C" fn plan_columns_of_runs(n: usize, g: usize, runs: &[u16], columns: &mut [u8]) -> u8
+    ensures { λ r. ⌜ Fills (either (runsFaults n g (now (runs .entry))) (LentFault n (now (columns .entry)))) n
+        (StandardColumns n (n - g) (switched (getD (now (runs .entry)) 0 0) (runsOf (now (runs .entry))))) (now (columns .entry)) (now (columns .exit)) r ⌝ }
+{
+    forms::columns_of_runs(n, g, runs, columns)
+}
+
+// Columns to words.
+#[no_mangle]
+pub extern "C" fn plan_words_of_columns(n: usize, g: usize, columns: &[u8], words: &mut [u16]) -> u8
+    ensures { λ r. ⌜ Fills (either (columnsFaults n g (now (columns .entry))) (LentFault g (now (words .entry)))) g
+        (Reduced n g (planOf n (n - g) (now (columns .entry)))) (now (words .entry)) (now (words .exit)) r ⌝ }
+{
+    forms::words_of_columns(n, g, columns, words)
+}
+
+// Columns to run table.
+#[no_mangle]
+pub extern "C" fn plan_runs_of_columns(n: usize, g: usize, columns: &[u8], runs: &mut [u16]) -> u8
+    ensures { λ r. ⌜ Fills (either (columnsFaults n g (now (columns .entry))) (LentFault (2 ^ (n - g)) (now (runs .entry)))) (2 ^ (n - g))
+        (Listed n (n - g) (now (columns .entry))) (now (runs .entry)) (now (runs .exit)) r ⌝ }
+{
+    forms::list_runs_of_columns(n, g, columns, runs)
+}
+
+// Words to run table.
+#[no_mangle]
+pub extern "C" fn plan_runs_of_words(n: usize, g: usize, words: &[u16], runs: &mut [u16]) -> u8
+    ensures { λ r. ⌜ Fills (either (wordsFaults n g (now (words .entry))) (LentFault (2 ^ (n - g)) (now (runs .entry)))) (2 ^ (n - g))
+        (RunsOfPlan n (n - g) Listed (Generated n g (now (words .entry)))) (now (runs .entry)) (now (runs .exit)) r ⌝ }
+{
+    forms::list_runs_of_words(n, g, words, runs)
+}
+
+// The pattern, lengths 1 to n.
+#[no_mangle]
+pub extern "C" fn plan_pattern_of_columns(
+    n: usize,
+    g: usize,
+    columns: &[u8],
+    pattern: &mut [u16],
+) -> u8
+    ensures { λ r. ⌜ Fills (either (columnsFaults n g (now (columns .entry))) (LentFault n (now (pattern .entry)))) n
+        (Pattern n (planOf n (n - g) (now (columns .entry)))) (now (pattern .entry)) (now (pattern .exit)) r ⌝ }
+{
+    measures::pattern_of_columns(n, g, columns, pattern)
+}
+
+// The distance counts, 0 to n.
+#[no_mangle]
+pub extern "C" fn plan_distances_of_columns(
+    n: usize,
+    g: usize,
+    columns: &[u8],
+    counts: &mut [u16],
+) -> u8
+    ensures { λ r. ⌜ Fills (either (columnsFaults n g (now (columns .entry))) (LentFault (n + 1) (now (counts .entry)))) (n + 1)
+        (Distances n (planOf n (n - g) (now (columns .entry))) 0) (now (counts .entry)) (now (counts .exit)) r ⌝ }
+{
+    measures::distances_of_columns(n, g, columns, counts)
+}
+
+// The pattern, lengths 1 to n.
+#[no_mangle]
+pub extern "C" fn plan_pattern_of_words(
+    n: usize,
+    g: usize,
+    words: &[u16],
+    pattern: &mut [u16],
+) -> u8
+    ensures { λ r. ⌜ Fills (either (wordsFaults n g (now (words .entry))) (LentFault n (now (pattern .entry)))) n
+        (Pattern n (Generated n g (now (words .entry)))) (now (pattern .entry)) (now (pattern .exit)) r ⌝ }
+{
+    measures::pattern_of_words(n, g, words, pattern)
+}
+
+// The distance counts, 0 to n.
+#[no_mangle]
+pub extern "C" fn plan_distances_of_words(
+    n: usize,
+    g: usize,
+    words: &[u16],
+    counts: &mut [u16],
+) -> u8
+    ensures { λ r. ⌜ Fills (either (wordsFaults n g (now (words .entry))) (LentFault (n + 1) (now (counts .entry)))) (n + 1)
+        (Distances n (Generated n g (now (words .entry))) 0) (now (counts .entry)) (now (counts .exit)) r ⌝ }
+{
+    measures::distances_of_words(n, g, words, counts)
+}
+
+// The pattern, lengths 1 to n.
+#[no_mangle]
+pub extern "C" fn plan_pattern_of_runs(n: usize, g: usize, runs: &[u16], pattern: &mut [u16]) -> u8
+    ensures { λ r. ⌜ Fills (either (runsFaults n g (now (runs .entry))) (LentFault n (now (pattern .entry)))) n
+        (Pattern n (runsOf (now (runs .entry)))) (now (pattern .entry)) (now (pattern .exit)) r ⌝ }
+{
+    measures::pattern_of_runs(n, g, runs, pattern)
+}
+
+// The distance counts, 0 to n.
+#[no_mangle]
+pub extern "C" fn plan_distances_of_runs(n: usize, g: usize, runs: &[u16], counts: &mut [u16]) -> u8
+    ensures { λ r. ⌜ Fills (either (runsFaults n g (now (runs .entry))) (LentFault (n + 1) (now (counts .entry)))) (n + 1)
+        (Distances n (runsOf (now (runs .entry))) (getD (now (runs .entry)) 0 0)) (now (counts .entry)) (now (counts .exit)) r ⌝ }
+{
+    measures::distances_of_runs(n, g, runs, counts)
+}
+
+// The resolution, in one place.
+#[no_mangle]
+pub extern "C" fn plan_resolution_of_columns(
+    n: usize,
+    g: usize,
+    columns: &[u8],
+    resolution: &mut [u8],
+) -> u8
+    ensures { λ r. ⌜ Fills (either (columnsFaults n g (now (columns .entry))) (LentFault 1 (now (resolution .entry)))) 1
+        (λ zs. Resolution n (planOf n (n - g) (now (columns .entry))) (getD zs 0 0)) (now (resolution .entry)) (now (resolution .exit)) r ⌝ }
+{
+    measures::list_resolution_of_columns(n, g, columns, resolution)
+}
+
+// The resolution, in one place.
+#[no_mangle]
+pub extern "C" fn plan_resolution_of_words(
+    n: usize,
+    g: usize,
+    words: &[u16],
+    resolution: &mut [u8],
+) -> u8
+    ensures { λ r. ⌜ Fills (either (wordsFaults n g (now (words .entry))) (LentFault 1 (now (resolution .entry)))) 1
+        (λ zs. Resolution n (Generated n g (now (words .entry))) (getD zs 0 0)) (now (resolution .entry)) (now (resolution .exit)) r ⌝ }
+{
+    measures::list_resolution_of_words(n, g, words, resolution)
+}
+
+// The resolution, in one place.
+#[no_mangle]
+pub extern "C" fn plan_resolution_of_runs(
+    n: usize,
+    g: usize,
+    runs: &[u16],
+    resolution: &mut [u8],
+) -> u8
+    ensures { λ r. ⌜ Fills (either (runsFaults n g (now (runs .entry))) (LentFault 1 (now (resolution .entry)))) 1
+        (λ zs. Resolution n (runsOf (now (runs .entry))) (getD zs 0 0)) (now (resolution .entry)) (now (resolution .exit)) r ⌝ }
+{
+    measures::list_resolution_of_runs(n, g, runs, resolution)
+}
+
+// Which of two lists of words has less aberration: 1 the first, 2 the second, 0 if refused.
+#[no_mangle]
+pub extern "C" fn plan_less_aberration(n: usize, g: usize, first: &[u16], second: &[u16]) -> u8
+    ensures { λ r. ⌜ Chooses (either (wordsFaults n g (now (first .entry))) (wordsFaults n g (now (second .entry))))
+        (LessAberration n (n - g) (Generated n g (now (second .entry))) (Generated n g (now (first .entry)))) r ⌝ }
+{
+    aberration::choice(n, g, first, second)
+}
+
+// The number of its refusal.
+#[no_mangle]
+pub extern "C" fn plan_aberration_refusal(n: usize, g: usize, first: &[u16], second: &[u16]) -> u8
+    ensures { λ r. ⌜ Lowest (either (wordsFaults n g (now (first .entry))) (wordsFaults n g (now (second .entry)))) r ⌝ }
+{
+    aberration::aberration_refusal(n, g, first, second)
+}
+
+// The answer of a check as a number.
+fn checked_number(c: Checked) -> u32
+    ensures { λ r. ⌜ r ≡ checkedNumber c ⌝ }
+{
+    match c {
+        Checked::Yes => 65536,
+        Checked::No => 131072,
+        Checked::Refused(k) => k as u32,
+    }
+}
+
+// Whether the names and the mask are a witness between two run tables.
+#[no_mangle]
+pub extern "C" fn plan_check_witness(
+    n: usize,
+    g: usize,
+    first: &[u16],
+    second: &[u16],
+    names: &[u8],
+    mask: u16,
+) -> u32
+    ensures { λ r. ⌜ Told (Checks (either (runsFaults n g (now (first .entry))) (runsFaults n g (now (second .entry))))
+        (Witness n (now (first .entry)) (now (second .entry)) (now (names .entry)) mask)) checkedNumber r ⌝ }
+{
+    checked_number(witness_check::check_witness(n, g, first, second, names, mask))
+}
+
+// The answer of a comparison as a number.
+fn compared_number(c: Compared) -> u32
+    ensures { λ r. ⌜ r ≡ comparedNumber c ⌝ }
+{
+    match c {
+        Compared::Same(mask) => 65536 + mask as u32,
+        Compared::Different(l) => 131072 + l as u32,
+        Compared::Refused(k) => k as u32,
+    }
+}
+
+// The comparison of two lists of columns.
+#[no_mangle]
+pub extern "C" fn plan_compare_columns(
+    n: usize,
+    g: usize,
+    first: &[u8],
+    second: &[u8],
+    witness: &mut [u8],
+) -> u32
+    ensures { λ r. ⌜ Told (Compares (either (either (columnsFaults n g (now (first .entry))) (columnsFaults n g (now (second .entry)))) (LentFault n (now (witness .entry))))
+        n (planOf n (n - g) (now (first .entry))) (planOf n (n - g) (now (second .entry))) (λ mask. mask ≡ 0) (now (witness .entry)) (now (witness .exit))) comparedNumber r ⌝ }
+{
+    compared_number(comparison::compare_columns(n, g, first, second, witness))
+}
+
+// The comparison of two run tables.
+#[no_mangle]
+pub extern "C" fn plan_compare_runs(
+    n: usize,
+    g: usize,
+    first: &[u16],
+    second: &[u16],
+    witness: &mut [u8],
+) -> u32
+    ensures { λ r. ⌜ Told (Compares (either (either (runsFaults n g (now (first .entry))) (runsFaults n g (now (second .entry)))) (LentFault n (now (witness .entry))))
+        n (runsOf (now (first .entry))) (runsOf (now (second .entry))) (λ mask. mask < 2 ^ n) (now (witness .entry)) (now (witness .exit))) comparedNumber r ⌝ }
+{
+    compared_number(comparison::compare_runs(n, g, first, second, witness))
+}
+
+// The smallest form of the plan of a list of columns, and the names of a witness to it.
+#[no_mangle]
+pub extern "C" fn plan_smallest_of_columns(
+    n: usize,
+    g: usize,
+    columns: &[u8],
+    smallest: &mut [u8],
+    witness: &mut [u8],
+) -> u8
+    ensures { λ r. ⌜ ReducesInto (either (either (columnsFaults n g (now (columns .entry))) (LentFault n (now (smallest .entry)))) (LentFault n (now (witness .entry)))) n (n - g)
+        (planOf n (n - g) (now (columns .entry))) (now (smallest .entry)) (now (smallest .exit)) (now (witness .entry)) (now (witness .exit)) r ⌝ }
+{
+    smallest_form::smallest_of_columns(n, g, columns, smallest, witness)
+}
+
+// The catalogue, n columns an entry, one after another.
+#[no_mangle]
+pub extern "C" fn plan_catalogue(
+    n: usize,
+    g: usize,
+    r: usize,
+    columns: &mut [u8],
+) -> CatalogueAnswer
+    ensures { λ a. ⌜ ListsBytes n g r (now (columns .entry)) (now (columns .exit)) (a .number) (a .count) ⌝ }
+{
+    catalogue::list_catalogue(n, g, r, columns)
+}
