@@ -1,0 +1,111 @@
+//! Measures the comparison of two plans, through the exported function on columns, against the same steps in plain Rust and against
+//! canonical labels by nauty, on the same pairs. Prints a Markdown table.
+
+mod families;
+mod nauty;
+mod plain;
+
+use families::{Draw, Family};
+use plain::admission::admit;
+use plan_tests::planner::plan_compare_columns;
+use std::hint::black_box;
+use std::time::Instant;
+
+/// Passes over a family: each pair counts at its fastest.
+const PASSES: usize = 5;
+
+/// Whether two plans are the same, by one of the three.
+type Decide = fn(usize, usize, &[u8], &[u8]) -> bool;
+
+fn by_the_library(n: usize, g: usize, first: &[u8], second: &[u8]) -> bool {
+    let mut witness = [0; 16];
+    plan_compare_columns(n, g, first, second, &mut witness) == 0x1_0000
+}
+
+fn by_plain_rust(n: usize, g: usize, first: &[u8], second: &[u8]) -> bool {
+    let mut witness = [0; 16];
+    plain::compare_columns(n, g, first, second, &mut witness) == 0x1_0000
+}
+
+/// By labels of both plans. The columns are admitted as the other two admit them.
+fn by_nauty(n: usize, g: usize, first: &[u8], second: &[u8]) -> bool {
+    let (Ok(first), Ok(second)) = (admit(n, g, first), admit(n, g, second)) else { panic!("not plans") };
+    let (mut one, mut other) = ([0; nauty::MOST_NUMBERS], [0; nauty::MOST_NUMBERS]);
+    let count = nauty::label(n, g, &first, &mut one);
+    count == nauty::label(n, g, &second, &mut other) && one[..count] == other[..count]
+}
+
+/// Microseconds a pair, each pair at its fastest: the mean over the family, and the slowest pair.
+struct Time {
+    mean: f64,
+    worst: f64,
+}
+
+fn measure(family: &Family, decide: Decide) -> Time {
+    let g = family.n - family.m;
+    let mut fastest = vec![f64::INFINITY; family.pairs.len()];
+    for _ in 0..PASSES {
+        for ((first, second), fastest) in family.pairs.iter().zip(&mut fastest) {
+            let start = Instant::now();
+            black_box(decide(family.n, g, black_box(first), black_box(second)));
+            *fastest = fastest.min(start.elapsed().as_secs_f64() * 1e6);
+        }
+    }
+    Time { mean: fastest.iter().sum::<f64>() / fastest.len() as f64, worst: fastest.iter().copied().fold(0.0, f64::max) }
+}
+
+/// Fails unless all three decide every pair as the family says.
+fn confirm(family: &Family) {
+    for (first, second) in &family.pairs {
+        for decide in [by_the_library as Decide, by_plain_rust, by_nauty] {
+            let found = decide(family.n, family.n - family.m, first, second);
+            assert_eq!(found, family.same, "{}: {first:?} and {second:?}", family.kind);
+        }
+    }
+}
+
+fn print_row(family: &Family) {
+    confirm(family);
+    let [ours, plain, nauty] = [by_the_library as Decide, by_plain_rust, by_nauty].map(|decide| measure(family, decide));
+    let Family { kind, n, m, same, pairs } = family;
+    let answer = if *same { "same" } else { "different" };
+    println!(
+        "| {kind} | {n} | {m} | {answer} | {} | {:.2} | {:.2} | {:.2} | {:.2} | {:.2} | {:.1} | {:.1} | {:.3} |",
+        pairs.len(),
+        ours.mean,
+        ours.worst,
+        plain.mean,
+        plain.worst,
+        ours.mean / plain.mean,
+        nauty.mean,
+        nauty.worst,
+        ours.mean / nauty.mean,
+    );
+}
+
+fn families() -> Vec<Family> {
+    let mut list = Vec::new();
+    for (n, m) in [(16, 7), (16, 6), (16, 5), (12, 6), (9, 6)] {
+        list.push(families::same(n, m, "random", Draw::Any));
+        list.push(families::other_patterns(n, m, "random, other pattern"));
+        list.push(families::equal_patterns(n, m, "random, equal patterns", Draw::Any));
+    }
+    for (n, m) in [(16, 7), (16, 6)] {
+        list.push(families::same(n, m, "odd weight", Draw::Odd));
+        list.push(families::equal_patterns(n, m, "odd weight, equal patterns", Draw::Odd));
+        list.push(families::alike(n, m, "equal patterns and letter counts"));
+    }
+    list.push(families::alike(14, 7, "equal patterns and letter counts"));
+    list.push(families::alike(12, 7, "equal patterns and letter counts"));
+    list.push(families::p_against_q());
+    list.extend(families::symmetric_plans());
+    list
+}
+
+fn main() {
+    println!(
+        "| pairs | N | M | answer | number | library | worst | plain Rust | worst | library / plain | nauty | worst | library / nauty |"
+    );
+    println!("|---|---|---|---|---|---|---|---|---|---|---|---|---|");
+    families().iter().for_each(print_row);
+}

@@ -1,0 +1,113 @@
+/* Document 01's examples, called from C. Prints one line for each; forms.stdout has what must be printed. */
+#include "planner.h"
+
+#include <stdio.h>
+
+#define COUNT(list) (sizeof(list) / sizeof((list)[0]))
+
+/* A value that no result has, so that an untouched place is seen. */
+enum { UNTOUCHED = 99 };
+
+/* Places of every lent list. */
+enum { PLACES = 18 };
+
+static uint8_t bytes[PLACES];
+static uint16_t shorts[PLACES];
+
+static void clear(void)
+{
+    for (size_t i = 0; i < PLACES; i++) {
+        bytes[i] = UNTOUCHED;
+        shorts[i] = UNTOUCHED;
+    }
+}
+
+/* The answer, and the places of the lent list that the call changed. */
+static void print_bytes(const char *call, uint8_t answer)
+{
+    printf("%s: %u:", call, answer);
+    for (size_t i = 0; i < PLACES; i++) {
+        if (bytes[i] != UNTOUCHED) {
+            printf(" %u", bytes[i]);
+        }
+    }
+    printf("\n");
+    clear();
+}
+
+static void print_shorts(const char *call, uint8_t answer)
+{
+    printf("%s: %u:", call, answer);
+    for (size_t i = 0; i < PLACES; i++) {
+        if (shorts[i] != UNTOUCHED) {
+            printf(" %u", shorts[i]);
+        }
+    }
+    printf("\n");
+    clear();
+}
+
+static const uint8_t small_columns[] = {1, 2, 3};
+static const uint16_t small_runs[] = {0, 5, 6, 3};
+static const uint16_t small_words[] = {7};
+
+static void print_small(void)
+{
+    print_shorts("runs of columns 1 2 3", plan_runs_of_columns(3, 1, small_columns, 3, shorts, PLACES));
+    print_shorts("distances of columns 1 2 3", plan_distances_of_columns(3, 1, small_columns, 3, shorts, PLACES));
+    print_shorts("pattern of columns 1 2 3", plan_pattern_of_columns(3, 1, small_columns, 3, shorts, PLACES));
+    print_bytes("columns of runs 0 5 6 3", plan_columns_of_runs(3, 1, small_runs, 4, bytes, PLACES));
+    print_shorts("distances of runs 0 5 6 3", plan_distances_of_runs(3, 1, small_runs, 4, shorts, PLACES));
+    print_shorts("pattern of runs 0 5 6 3", plan_pattern_of_runs(3, 1, small_runs, 4, shorts, PLACES));
+    print_bytes("resolution of runs 0 5 6 3", plan_resolution_of_runs(3, 1, small_runs, 4, bytes, PLACES));
+    print_shorts("runs of word ABC", plan_runs_of_words(3, 1, small_words, 1, shorts, PLACES));
+    print_shorts("distances of word ABC", plan_distances_of_words(3, 1, small_words, 1, shorts, PLACES));
+    print_bytes("columns of no words", plan_columns_of_words(3, 0, small_words, 0, bytes, PLACES));
+    print_bytes("resolution of no words", plan_resolution_of_words(3, 0, small_words, 0, bytes, PLACES));
+}
+
+/* P: ABCD, CDEF, ACEGHJ. Q: ABCD, AEFG, BEHJ. */
+static const uint16_t p_words[] = {15, 60, 469};
+static const uint16_t q_words[] = {15, 113, 402};
+static const uint8_t p_columns[] = {1, 2, 4, 7, 8, 11, 16, 32, 61};
+static const uint8_t q_columns[] = {1, 2, 4, 7, 8, 16, 25, 32, 42};
+
+static void print_p_and_q(void)
+{
+    print_bytes("columns of P", plan_columns_of_words(9, 3, p_words, 3, bytes, PLACES));
+    print_bytes("columns of Q", plan_columns_of_words(9, 3, q_words, 3, bytes, PLACES));
+    print_shorts("words of P", plan_words_of_columns(9, 3, p_columns, 9, shorts, PLACES));
+    print_shorts("words of Q", plan_words_of_columns(9, 3, q_columns, 9, shorts, PLACES));
+    print_shorts("pattern of P", plan_pattern_of_words(9, 3, p_words, 3, shorts, PLACES));
+    print_shorts("pattern of Q", plan_pattern_of_words(9, 3, q_words, 3, shorts, PLACES));
+    print_bytes("resolution of P", plan_resolution_of_columns(9, 3, p_columns, 9, bytes, PLACES));
+    printf("aberration of P and Q: %u: %u\n", plan_aberration_refusal(9, 3, p_words, 3, q_words, 3),
+           plan_less_aberration(9, 3, p_words, 3, q_words, 3));
+}
+
+static const uint16_t two_words[] = {7, 25};
+static const uint16_t past_word[] = {8};
+static const uint16_t repeated_word[] = {7, 7};
+static const uint16_t short_word[] = {3};
+
+static void print_refused(void)
+{
+    print_bytes("N 17", plan_columns_of_words(17, 1, small_words, 1, bytes, PLACES));
+    print_bytes("N 9, G 1", plan_columns_of_words(9, 1, small_words, 1, bytes, PLACES));
+    print_bytes("N 5, G 1, two words", plan_columns_of_words(5, 1, two_words, COUNT(two_words), bytes, PLACES));
+    print_bytes("N 3, G 1, word 8", plan_columns_of_words(3, 1, past_word, COUNT(past_word), bytes, PLACES));
+    print_bytes("N 4, G 2, word 7 twice", plan_columns_of_words(4, 2, repeated_word, COUNT(repeated_word), bytes, PLACES));
+    print_bytes("N 3, G 1, word 3", plan_columns_of_words(3, 1, short_word, COUNT(short_word), bytes, PLACES));
+    print_bytes("N 5, G 1, 4 places", plan_columns_of_words(5, 1, small_words, 1, bytes, 4));
+    printf("aberration of word ABC and word AB: %u: %u\n", plan_aberration_refusal(3, 1, small_words, 1, short_word, 1),
+           plan_less_aberration(3, 1, small_words, 1, short_word, 1));
+}
+
+int main(void)
+{
+    clear();
+    print_small();
+    print_p_and_q();
+    print_refused();
+    return 0;
+}

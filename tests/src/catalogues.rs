@@ -1,0 +1,128 @@
+//! Calls for smallest forms and catalogues with guarded lists, held against the checking program.
+
+use crate::calls::{bytes, guarded, MARGIN};
+use crate::check::plan::Form;
+use crate::check::refusals::{accepted, of_sizes};
+use crate::check::renamings::is_witness;
+use crate::check::runs::runs_of_columns;
+use crate::check::smallest::{no_word_below, smallest};
+use crate::known::every_plan;
+use crate::planner::{plan_catalogue, plan_smallest_of_columns};
+use std::collections::BTreeSet;
+
+/// An accepted catalogue's answer is this and its entry count.
+const ENTRIES: u32 = 0x1_0000;
+
+/// The answer of a list that has not enough room.
+const NO_ROOM: u32 = 9;
+
+/// The entries of a catalogue, each by its columns.
+pub type Entries = Vec<Vec<u32>>;
+
+/// The smallest form of every plan of n factors, m of them basic, in dictionary order.
+pub fn every_smallest_form(n: usize, m: usize) -> Entries {
+    let rising = |mut columns: Vec<u32>| {
+        columns.sort();
+        columns
+    };
+    let lists: BTreeSet<Vec<u32>> = every_plan(n, m).into_iter().map(rising).collect();
+    let forms: BTreeSet<Vec<u32>> = lists.iter().map(|list| smallest(m, list)).collect();
+    forms.into_iter().collect()
+}
+
+/// The forms without a word of fewer than r letters.
+pub fn with_resolution(forms: &Entries, r: usize) -> Entries {
+    forms.iter().filter(|form| no_word_below(r, form)).cloned().collect()
+}
+
+/// The answer of a catalogue's call with a list of this many places, and the whole guarded list before and after it.
+pub fn call_catalogue(n: usize, g: usize, r: usize, places: usize) -> (u32, Vec<u32>, Vec<u32>) {
+    let before = guarded(places);
+    let mut lent = bytes(&before);
+    let answer = plan_catalogue(n, g, r, &mut lent[MARGIN..MARGIN + places]);
+    (answer, before, lent.iter().map(|&column| column.into()).collect())
+}
+
+/// Compares one call, with a list of this many places, with the entries of its catalogue: the answer and every place of the list.
+pub fn compare_catalogue(n: usize, g: usize, r: usize, entries: &Entries, places: usize) {
+    let (answer, before, after) = call_catalogue(n, g, r, places);
+    let room = places / n;
+    let expected = if entries.len() > room { NO_ROOM } else { ENTRIES + entries.len() as u32 };
+    let mut list = before;
+    for (k, entry) in entries.iter().take(room).enumerate() {
+        list[MARGIN + k * n..MARGIN + (k + 1) * n].copy_from_slice(entry);
+    }
+    assert_eq!(answer, expected, "the answer for {n} {g} {r} with {places} places");
+    assert_eq!(after, list, "the list for {n} {g} {r} with {places} places");
+}
+
+/// The number under which the sizes of a catalogue are refused, 0 if they are not.
+pub fn refusal(n: usize, g: usize, r: usize) -> u8 {
+    match of_sizes(n, g) {
+        0 if !(3..=16).contains(&r) => 3,
+        number => number,
+    }
+}
+
+/// Compares one call whose sizes are refused.
+pub fn compare_refused(n: usize, g: usize, r: usize, places: usize) {
+    let (answer, before, after) = call_catalogue(n, g, r, places);
+    assert_eq!(answer, u32::from(refusal(n, g, r)), "the answer for {n} {g} {r}");
+    assert_eq!(after, before, "a refused call touched its list: {n} {g} {r}");
+}
+
+/// The entries that one call gives: all of them, or the first ones where the list has room for no more than these. Fails if it touches
+/// anything else.
+pub fn entries(n: usize, g: usize, r: usize, room: usize) -> (bool, Entries) {
+    let (answer, before, after) = call_catalogue(n, g, r, room * n);
+    let count = if answer == NO_ROOM { room } else { answer.checked_sub(ENTRIES).expect("accepted, or refused by 9") as usize };
+    let end = MARGIN + count * n;
+    assert!(count <= room && before[..MARGIN] == after[..MARGIN] && before[end..] == after[end..], "{n} {g} {r}: {answer:#x}");
+    (answer != NO_ROOM, after[MARGIN..end].chunks(n).map(|entry| entry.to_vec()).collect())
+}
+
+/// The catalogue of a size as the library gives it, which has no more entries than this. Fails unless each is a smallest form by the
+/// checking program, has no word below R, and stands after the one before it.
+pub fn catalogue(n: usize, m: usize, r: usize, most: usize) -> Entries {
+    let (whole, entries) = entries(n, n - m, r, most);
+    assert!(whole, "{n} {} {r} has more than {most} entries", n - m);
+    confirm_entries(m, r, &entries);
+    entries
+}
+
+/// Fails unless these are smallest forms in dictionary order, without a word below r.
+pub fn confirm_entries(m: usize, r: usize, entries: &Entries) {
+    for (k, entry) in entries.iter().enumerate() {
+        assert!(k == 0 || entries[k - 1] < *entry, "entry {k} is not after the one before it: {entry:?}");
+        assert!(no_word_below(r, entry), "entry {k} has a word below {r}: {entry:?}");
+        assert_eq!(smallest(m, entry), *entry, "entry {k} is not a smallest form");
+    }
+}
+
+/// Compares one call for the smallest form of any list with the form that is expected of it if it is accepted: the answer, the columns, the
+/// witness run by run, and the places that it may not touch. Returns the answer.
+pub fn compare_smallest(n: usize, g: usize, columns: &[u32], form: &[u32], places: (usize, usize)) -> u8 {
+    let expected = match accepted(n, g, Form::Columns, columns).err().unwrap_or(0) {
+        0 if places.0 < n || places.1 < n => 8,
+        number => number,
+    };
+    let given = bytes(columns);
+    let (forms, names) = (guarded(places.0), guarded(places.1));
+    let (mut lent, mut witness) = (bytes(&forms), bytes(&names));
+    let (lists, ends) = ((&mut lent[MARGIN..], &mut witness[MARGIN..]), places);
+    let answer = plan_smallest_of_columns(n, g, &given, &mut lists.0[..ends.0], &mut lists.1[..ends.1]);
+    assert_eq!(answer, expected, "the smallest form of {columns:?}, {n} {g}, with {places:?} places");
+    assert_eq!(given, bytes(columns), "a call changed what it reads");
+    if answer != 0 {
+        assert!(lent == bytes(&forms) && witness == bytes(&names), "a refused call touched a list: {columns:?}, {n} {g}");
+        return answer;
+    }
+    let end = MARGIN + n;
+    let found: Vec<u32> = witness[MARGIN..end].iter().map(|&name| name.into()).collect();
+    let (first, second) = (runs_of_columns(n - g, columns), runs_of_columns(n - g, form));
+    assert_eq!(lent[MARGIN..end], bytes(form), "the smallest form of {columns:?}, {n} {g}");
+    assert!(is_witness(n, &first, &second, &found, 0), "no witness: {found:?} from {columns:?} to {form:?}");
+    let untouched = |list: &[u8], before: &[u32]| list[..MARGIN] == bytes(before)[..MARGIN] && list[end..] == bytes(before)[end..];
+    assert!(untouched(&lent, &forms) && untouched(&witness, &names), "places past the result: {columns:?}, {n} {g}");
+    answer
+}

@@ -1,0 +1,148 @@
+//! The checking program itself, held against examples worked out in the papers and against a formula of document 003.
+
+use plan_tests::check::bits::odd;
+use plan_tests::check::columns::{rank_is, standard, total};
+use plan_tests::check::measures::{distances, pattern, resolution};
+use plan_tests::check::plan::{Form, Plan, Question};
+use plan_tests::check::refusals::accepted;
+use plan_tests::check::runs::{plan_of_words, regular, runs_of_columns};
+use plan_tests::check::words::{independent, is_word, reduced, words_of};
+use plan_tests::random::Random;
+use plan_tests::samples::{given, sample};
+
+/// The set of factors that a word of letters A to Q, without I, names.
+fn word(text: &str) -> u32 {
+    text.chars().map(|letter| 1 << "ABCDEFGHJKLMNOPQ".find(letter).expect("a factor's letter")).sum()
+}
+
+/// The pattern of the plan that the words generate, by its runs.
+fn pattern_of(n: usize, words: &[&str]) -> Vec<u32> {
+    let words: Vec<u32> = words.iter().map(|text| word(text)).collect();
+    pattern(n, &words_of(n, &plan_of_words(n, &words)))
+}
+
+#[test]
+fn patterns_worked_out_in_document_000_are_found() {
+    assert_eq!(pattern_of(7, &["ABCF", "BCDEG"]), [0, 0, 0, 1, 2, 0, 0], "page 5, d1");
+    assert_eq!(pattern_of(7, &["ABCF", "ADEG"]), [0, 0, 0, 2, 0, 1, 0], "page 5, d2");
+    assert_eq!(pattern_of(5, &["ABD", "ACE"]), [0, 0, 2, 1, 0], "section 2.2.1, first");
+    assert_eq!(pattern_of(5, &["ABD", "ABCE"]), [0, 0, 2, 1, 0], "section 2.2.1, second");
+    assert_eq!(pattern_of(7, &["ABE", "ABDF", "BDCG"]), [0, 0, 2, 3, 2, 0, 0], "section 2.2.1, d1");
+    assert_eq!(pattern_of(7, &["ABE", "ACF", "ABCG"]), [0, 0, 4, 3, 0, 0, 0], "section 3.1");
+}
+
+#[test]
+fn the_definition_decides_where_document_000s_section_2_2_1_prints_another_pattern_for_d2() {
+    // printed as 0 0 2 3 2; but ACE times ACDF is DEF, and ACDF times ABCDG is BFG
+    assert_eq!(pattern_of(7, &["ACE", "ACDF", "ABCDG"]), [0, 0, 3, 2, 1, 1, 0]);
+}
+
+#[test]
+fn three_runs_of_four_that_do_not_close_are_not_regular() {
+    assert!(regular(&[0, 5, 6, 3]), "the runs of columns 1 2 3");
+    assert!(regular(&[1, 4, 7, 2]), "the same with A switched");
+    assert!(!regular(&[0, 5, 6, 7]), "0 5 6 need 3");
+}
+
+#[test]
+fn rank_counts_what_columns_reach() {
+    assert!(rank_is(3, &[3, 5, 1]), "3, 5 and 1 are independent");
+    assert!(!rank_is(3, &[3, 5, 6]), "3, 5 and 6 cancel");
+    assert!(!rank_is(2, &[0, 1, 1]), "nothing reaches 2");
+}
+
+#[test]
+fn dependence_of_words_is_seen_in_products() {
+    assert!(independent(&[7, 25]), "ABC and ADE");
+    assert!(!independent(&[7, 25, 30]), "ABC times ADE is BCDE");
+    assert!(!independent(&[7, 0]), "an empty word");
+}
+
+#[test]
+fn a_word_is_a_set_whose_product_of_signs_is_constant_of_either_sign() {
+    let runs = [1, 4, 7, 2];
+    assert!(is_word(&runs, word("ABC")), "an odd number of low levels in every run");
+    assert!(!is_word(&runs, word("AB")), "not constant");
+    assert!(!is_word(&runs, 0), "the empty set is no word");
+}
+
+/// The number of ways to choose k of n.
+fn choose(n: i64, k: i64) -> i64 {
+    if k > n {
+        return 0;
+    }
+    (0..k).fold(1, |ways, i| ways * (n - i) / (i + 1))
+}
+
+/// Document 003's wordlength pattern of distance counts (definitions 2 and 3, two levels), lengths 1 to n.
+fn pattern_from_distances(n: usize, counts: &[u32]) -> Vec<u32> {
+    let n = n as i64;
+    let runs: i64 = counts.iter().map(|&count| count as i64).sum();
+    let krawtchouk = |j: i64, x: i64| (0..=j).map(|i| if i % 2 == 0 { 1 } else { -1 } * choose(x, i) * choose(n - x, j - i)).sum::<i64>();
+    let transformed = |j: i64| counts.iter().enumerate().map(|(i, &count)| count as i64 * krawtchouk(j, i as i64)).sum::<i64>();
+    (1..=n).map(|j| u32::try_from(transformed(j) / runs).expect("a count")).collect()
+}
+
+#[test]
+fn pattern_by_words_is_document_003s_transform_of_the_distance_counts() {
+    let mut random = Random::new(3);
+    for _ in 0..200 {
+        let plan = sample(&mut random);
+        let runs = runs_of_columns(plan.m, &plan.columns);
+        let words = words_of(plan.n, &runs);
+        let transformed = pattern_from_distances(plan.n, &distances(plan.n, &runs));
+        assert_eq!(pattern(plan.n, &words), transformed, "n {} columns {:?}", plan.n, plan.columns);
+    }
+}
+
+#[test]
+fn standard_columns_and_reduced_words_give_the_plan_back() {
+    let mut random = Random::new(4);
+    for _ in 0..200 {
+        let plan = sample(&mut random);
+        let words = words_of(plan.n, &runs_of_columns(plan.m, &plan.columns));
+        let columns = standard(plan.n, &words);
+        let list = reduced(plan.n, &words);
+        let cancelling: Vec<u32> = (1..1 << plan.n).filter(|&set| total(&columns, set) == 0).collect();
+        assert_eq!(cancelling, words, "sets whose standard columns {columns:?} cancel");
+        let mut runs = runs_of_columns(plan.m, &columns);
+        runs.sort();
+        assert_eq!(runs, plan_of_words(plan.n, &list), "runs of standard columns {columns:?} and of reduced words {list:?}");
+    }
+}
+
+#[test]
+fn generated_plans_meet_every_word_in_an_even_number_of_low_levels() {
+    let mut random = Random::new(5);
+    for _ in 0..200 {
+        let plan = sample(&mut random);
+        let list = given(&mut random, &plan, Form::Words);
+        let generated = Plan::new(list.n, list.g, Form::Words, &list.list);
+        assert_eq!(generated.runs.len(), 1 << plan.m, "runs of {list:?}");
+        assert_eq!(generated.words.len(), (1 << list.g) - 1, "words of {list:?}");
+        assert!(generated.words.iter().all(|&word| generated.runs.iter().all(|&run| !odd(run, word))), "{list:?}");
+    }
+}
+
+#[test]
+fn a_full_factorial_has_resolution_0_and_no_words() {
+    let plan = Plan::new(3, 0, Form::Words, &[]);
+    assert_eq!(plan.answer(Question::Columns), [1, 2, 4]);
+    assert_eq!(plan.answer(Question::Pattern), [0, 0, 0]);
+    assert_eq!(resolution(&plan.words), 0);
+}
+
+#[test]
+fn refusals_of_document_01s_table_are_found() {
+    let number = |n, g, form, list: &[u32]| accepted(n, g, form, list).err().unwrap_or(0);
+    assert_eq!(number(17, 1, Form::Words, &[7]), 1);
+    assert_eq!(number(9, 1, Form::Words, &[7]), 2);
+    assert_eq!(number(5, 1, Form::Words, &[7, 25]), 4);
+    assert_eq!(number(3, 1, Form::Words, &[8]), 5);
+    assert_eq!(number(4, 2, Form::Words, &[7, 7]), 6);
+    assert_eq!(number(3, 1, Form::Words, &[3]), 7);
+    assert_eq!(number(4, 1, Form::Words, &[0]), 6, "a zero word");
+    assert_eq!(number(3, 1, Form::Columns, &[1, 2, 0]), 7, "a zero column");
+    assert_eq!(number(3, 1, Form::Columns, &[1, 2, 2]), 7, "a repeated column");
+    assert_eq!(number(3, 1, Form::Columns, &[1, 1, 0]), 6, "rank comes first");
+}

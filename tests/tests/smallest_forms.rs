@@ -1,0 +1,182 @@
+//! Smallest forms: of every small plan, of random plans in other names and basics, of a catalogue's entries, and refusals.
+
+use plan_tests::calls::Given;
+use plan_tests::catalogues::{compare_smallest, entries, Entries};
+use plan_tests::check::columns::rank_is;
+use plan_tests::check::labels::label;
+use plan_tests::check::plan::Form;
+use plan_tests::check::refusals::accepted;
+use plan_tests::check::runs::runs_of_columns;
+use plan_tests::check::smallest::{every_rising_list, smallest};
+use plan_tests::known::{every_plan, in_other_basics};
+use plan_tests::random::Random;
+use plan_tests::samples::{columns, damaged, given, sample, short_sample};
+
+/// The same plan: the columns written in other basic factors, in another order.
+fn scrambled(random: &mut Random, m: usize, columns: &[u32]) -> Vec<u32> {
+    let mut other = in_other_basics(random, m, columns);
+    random.shuffle(&mut other);
+    other
+}
+
+/// Lists just long enough, or longer.
+fn places(random: &mut Random, n: usize) -> (usize, usize) {
+    let more = |random: &mut Random| if random.below(2) == 0 { random.below(6) } else { 0 };
+    (n + more(random), n + more(random))
+}
+
+#[test]
+fn every_plan_of_up_to_7_factors_has_the_smallest_form_of_the_checking_program() {
+    let mut random = Random::new(0x51);
+    for (n, m) in (1..=7).flat_map(|n| (1..=n).map(move |m| (n, m))) {
+        for plan in every_plan(n, m) {
+            let form = smallest(m, &plan);
+            let other = scrambled(&mut random, m, &plan);
+            let lent = places(&mut random, n);
+            compare_smallest(n, n - m, &plan, &form, lent);
+            compare_smallest(n, n - m, &other, &form, lent);
+        }
+    }
+}
+
+#[test]
+fn a_smallest_form_stands_before_every_other_rising_list_of_its_label() {
+    for (n, m) in [(5, 4), (6, 4), (7, 4), (8, 4)] {
+        let mut first: Vec<(Vec<u32>, Vec<u32>)> = Vec::new();
+        every_rising_list(n, m, &mut |list| {
+            if !rank_is(m, list) {
+                return;
+            }
+            let label = label(n, &runs_of_columns(m, list));
+            let place = first.iter().position(|(known, _)| *known == label).unwrap_or_else(|| {
+                first.push((label, list.to_vec()));
+                first.len() - 1
+            });
+            compare_smallest(n, n - m, list, &first[place].1, (n, n));
+        });
+    }
+}
+
+#[test]
+fn random_plans_of_every_size_have_the_smallest_form_of_the_checking_program() {
+    let mut random = Random::new(0x52);
+    for _ in 0..300 {
+        let plan = sample(&mut random);
+        let form = smallest(plan.m, &plan.columns);
+        for list in [plan.columns.clone(), scrambled(&mut random, plan.m, &plan.columns), form.clone()] {
+            let lent = places(&mut random, plan.n);
+            compare_smallest(plan.n, plan.n - plan.m, &list, &form, lent);
+        }
+    }
+}
+
+/// Sizes whose catalogues have at most a few hundred entries: N and M.
+fn sizes() -> Vec<(usize, usize)> {
+    let up_to = [(3, 7), (4, 15), (5, 16), (6, 11), (7, 9)];
+    up_to.iter().flat_map(|&(m, most)| (m..=most).map(move |n| (n, m))).collect()
+}
+
+/// The one entry that has the same label as the columns.
+fn entry_of(n: usize, m: usize, entries: &Entries, labels: &[Vec<u32>], columns: &[u32]) -> Vec<u32> {
+    let wanted = label(n, &runs_of_columns(m, columns));
+    let found: Vec<usize> = (0..entries.len()).filter(|&k| labels[k] == wanted).collect();
+    assert_eq!(found.len(), 1, "the entries that are the same plan as {columns:?}: {found:?}");
+    entries[found[0]].clone()
+}
+
+#[test]
+fn random_plans_reach_one_entry_of_the_catalogue_and_it_is_their_smallest_form() {
+    let mut random = Random::new(0x53);
+    for (n, m) in sizes() {
+        let (whole, entries) = entries(n, n - m, 3, 1_000);
+        assert!(whole, "{n} factors, {m} basic");
+        let labels: Vec<Vec<u32>> = entries.iter().map(|entry| label(n, &runs_of_columns(m, entry))).collect();
+        for _ in 0..20 {
+            let plan = columns(&mut random, n, m);
+            let entry = entry_of(n, m, &entries, &labels, &plan);
+            let lent = places(&mut random, n);
+            compare_smallest(n, n - m, &plan, &entry, lent);
+        }
+    }
+}
+
+#[test]
+fn the_smallest_form_of_an_entry_is_itself_also_in_other_names_and_basics() {
+    let mut random = Random::new(0x54);
+    for (n, m) in sizes() {
+        for entry in entries(n, n - m, 3, 1_000).1 {
+            compare_smallest(n, n - m, &entry, &entry, (n, n));
+            let other = scrambled(&mut random, m, &entry);
+            compare_smallest(n, n - m, &other, &entry, (n + 1, n + 2));
+        }
+    }
+}
+
+/// The smallest form of a list that is a plan; nothing of any other list.
+fn form(n: usize, g: usize, list: &[u32]) -> Vec<u32> {
+    match accepted(n, g, Form::Columns, list) {
+        Ok(_) => smallest(n - g, list),
+        Err(_) => Vec::new(),
+    }
+}
+
+#[test]
+fn damaged_lists_are_refused_under_the_lowest_number_and_every_number_is_reached() {
+    let mut random = Random::new(0x55);
+    let mut reached = [0; 9];
+    for _ in 0..2_000 {
+        let plan = sample(&mut random);
+        let plan = if random.below(4) == 0 { short_sample(&mut random, &plan).unwrap_or(plan) } else { plan };
+        let good = given(&mut random, &plan, Form::Columns);
+        let Given { n, g, list, .. } = damaged(&mut random, &good);
+        let lent = match random.below(4) {
+            0 => (random.below(plan.n), plan.n + random.below(3)),
+            1 => (plan.n + random.below(3), random.below(plan.n)),
+            2 => (random.below(plan.n), random.below(plan.n)),
+            _ => places(&mut random, plan.n),
+        };
+        reached[compare_smallest(n, g, &list, &form(n, g, &list), lent) as usize] += 1;
+    }
+    for number in [0, 1, 2, 4, 5, 6, 7, 8] {
+        assert!(reached[number] > 0, "never answered {number}: {reached:?}");
+    }
+}
+
+#[test]
+fn every_list_of_3_columns_with_2_basic_is_answered_as_defined() {
+    for code in 0..216 {
+        let list = [code % 6, code / 6 % 6, code / 36];
+        for lent in [(3, 3), (2, 3), (3, 2), (0, 0), (4, 5)] {
+            compare_smallest(3, 1, &list, &form(3, 1, &list), lent);
+        }
+    }
+}
+
+#[test]
+fn every_size_is_refused_under_1_or_2_as_defined() {
+    let numbers: Vec<usize> = (0..=26).chain([64, 128, 255, 256, 65536, 1 << 32, usize::MAX - 1, usize::MAX]).collect();
+    let mut reached = [0; 9];
+    for &n in &numbers {
+        for &g in &numbers {
+            for list in [&[][..], &[1, 2, 4, 7], &[1, 2, 3]] {
+                for lent in [(0, 0), (20, 20)] {
+                    reached[compare_smallest(n, g, list, &form(n, g, list), lent) as usize] += 1;
+                }
+            }
+        }
+    }
+    assert!(reached[1] > 1_000 && reached[2] > 1_000 && reached[4] > 0, "{reached:?}");
+}
+
+#[test]
+fn lists_of_every_length_are_enough_from_n_places_on() {
+    let mut random = Random::new(0x56);
+    for (n, m) in [(1, 1), (5, 4), (9, 6), (16, 7)] {
+        let plan = columns(&mut random, n, m);
+        let form = smallest(m, &plan);
+        for lent in (0..2 * n + 2).flat_map(|first| (0..2 * n + 2).map(move |second| (first, second))) {
+            let answer = compare_smallest(n, n - m, &plan, &form, lent);
+            assert_eq!(answer == 8, lent.0 < n || lent.1 < n);
+        }
+    }
+}
