@@ -6,6 +6,8 @@ pub mod Pattern
 pub mod Designs
 pub mod Refusals
 pub mod RefusalLaws
+pub mod PlanLists
 pub mod Same
 pub mod Smallest
+pub mod Catalogues
 pub mod Comparisons
