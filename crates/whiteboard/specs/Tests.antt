@@ -1,6 +1,6 @@
--- Tests that compute, and what a passed test says: every test of a list, every number below k, no value 0 but the first, the members of a list
--- that pass.
-use mathlib.Core.Path.{_≡_, refl, sym, ap, subst, _∙_}
+-- Tests that compute, and what a passed test says: every test of a list, every number below k, no value 0 but the first, lists alike, the members
+-- of a list that pass.
+use mathlib.Core.Path.{_≡_, refl, sym, ap, ap₂, subst, _∙_}
 use mathlib.Core.Logic.{_⊎_, inl, inr, ⊎-elim, by-cases}
 use mathlib.Core.Bool.{Bool, true, false, _&&_, false≢true}
 use mathlib.Core.List.{List, [], _∷_}
@@ -55,6 +55,20 @@ onlyZero v k = below (λ i. ltb 0 (v (suc i))) (k - 1)
 pub only-zero : (v : ℕ → ℕ) (k : ℕ) → onlyZero v k ≡ true → (i : ℕ) → i < k → v i ≡ 0 → i ≡ 0
 only-zero v k e zero h z = refl
 only-zero v k e (suc i) h z = absurd (omega (arith, ltb-true 0 (v (suc i)) (below-at (λ j. ltb 0 (v (suc j))) (k - 1) e i (omega arith))))
+
+-- two lists have the same members, by a test of these, in the same order
+unfoldable pub alike : {A : Type 0} → (A → A → Bool) → List A → List A → Bool
+alike t [] [] = true
+alike t [] (y ∷ ys) = false
+alike t (x ∷ xs) [] = false
+alike t (x ∷ xs) (y ∷ ys) = t x y && alike t xs ys
+
+pub alike-is : {A : Type 0} (t : A → A → Bool) → ((x y : A) → t x y ≡ true → x ≡ y) → (xs ys : List A) → alike t xs ys ≡ true → xs ≡ ys
+unfolding alike
+alike-is t sound [] [] e = refl
+alike-is t sound [] (y ∷ ys) e = absurd (false≢true e)
+alike-is t sound (x ∷ xs) [] e = absurd (false≢true e)
+alike-is t sound (x ∷ xs) (y ∷ ys) e = let b = both (t x y) (alike t xs ys) e in ap₂ _∷_ (sound x y (b .0)) (alike-is t sound xs ys (b .1))
 
 -- the members of a list that pass
 unfoldable pub those : (ℕ → Bool) → List ℕ → List ℕ
