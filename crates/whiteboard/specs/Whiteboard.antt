@@ -5,13 +5,13 @@ use mathlib.Core.List.{List, [], _∷_}
 use Prim.Native.Nat.{ℕ}
 use lib.Count.{ones, onesIn}
 use Rattle.gf2.specs.Digits.{odd}
+use Rattle.gf2.specs.Vec.{vec}
 use Rattle.regular.specs.Columns.{runOf}
 use Rattle.regular.specs.Words.{total}
 use Rattle.standard.specs.Form.{unitsBefore}
 use Rattle.words.specs.Model.{reduced, lastOf, pivotsAt, freeBefore, wordColumns}
 use Rattle.counts.specs.Models.{firstLength}
 use Rattle.counts.specs.Tally.{tally}
-use Rattle.isomorphism_laws.specs.Vec.{vec}
 use Rattle.smallest_laws.specs.Presence.{present}
 use Rattle.smallest_laws.specs.Search.{anyTo, compare, reached, beaten}
 use Rattle.catalogue_laws.specs.Model.{short, fits, may, branch, listing}
