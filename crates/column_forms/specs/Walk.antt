@@ -1,9 +1,9 @@
 -- The walk over columns that finds their standard columns by span doubling: what holds after f of them, its steps, and what it has found.
-use mathlib.Core.Path.{_≡_, refl, sym, ap, ap₂, _∙_, subst}
+use mathlib.Core.Path.{_≡_, refl, sym, ap, _∙_, subst}
 use mathlib.Core.Logic.{by-cases}
 use mathlib.Core.Bool.{Bool, true, false}
 use mathlib.Core.List.{List, [], _∷_, _++_}
-use Prim.Native.Nat.{ℕ, zero, suc, _+_, _-_, _^_, _≤_, _<_}
+use Prim.Native.Nat.{ℕ, suc, _+_, _-_, _^_, _≤_, _<_}
 use native.Mathlib.Nat.{two-pow-succ}
 use native.Mathlib.Numerals.{add-one}
 use native.Mathlib.Omega.{arith}
@@ -15,16 +15,15 @@ use lib.Pow.{pow-pos, pow-mono}
 use lib.ListN.{length, getD, set, replicate, length-append}
 use lib.Seq.{getD-set-same, getD-set-other}
 use Rattle.gf2.specs.DigitLaws.{pow-inj}
-use Rattle.gf2.specs.Digits.{pick}
 use Rattle.regular.specs.Columns.{runOf, planOf, Below, Spans}
 use Rattle.regular.specs.Words.{total, Independent}
 use Rattle.standard.specs.Form.{unitsBefore, StandardFor, Found}
 use Rattle.standard.specs.Runs.{run-lt, total-lt}
-use Rattle.standard.specs.Total.{total-none, InSpan, span-at, span-total}
-use Rattle.standard.specs.Units.{units-next}
+use Rattle.standard.specs.Total.{total-none, InSpan, span-at, span-total, independent-once}
+use Rattle.standard.specs.Units.{units-next, units-same}
 use Rattle.column_forms.specs.Tables.{Held, Doubles, Grown}
 use Rattle.column_forms.specs.TableLaws.{blank-at, held-more, held-same}
-use Rattle.column_forms.specs.Basis.{independent-once, independent-few, independent-spans, spans-many, more-old, more-new, more-low, more-high, more-unit, more-independent, run-through, runs-all}
+use Rattle.column_forms.specs.Basis.{independent-few, independent-spans, spans-many, more-old, more-new, more-low, more-high, more-unit, more-independent, run-through, runs-all}
 
 -- after f of the n columns c: the basis has the columns that were no sum of those before them, in their order; sums holds what it reaches,
 -- half numbers, and places finds them again; a has the standard columns so far, each taken by the basis to the column of c
@@ -41,13 +40,7 @@ pub record Walk (n m : ℕ) (c : List ℕ) (f half : ℕ) (sums places a : List 
   pub column : (g : ℕ) → g < f → (getD a g 0 < half) × (total basis rank (getD a g 0) ≡ getD c g 0)
   pub unused : (g : ℕ) → f ≤ g → getD a g 0 ≡ 0
 
--- units, of columns that agree, and where the next is none
-units-same : (a b : List ℕ) (f : ℕ) → ((g : ℕ) → g < f → getD a g 0 ≡ getD b g 0) → unitsBefore a f ≡ unitsBefore b f
-unfolding unitsBefore
-units-same a b zero h = refl
-units-same a b (suc f) h =
-    ap₂ (λ (x k : ℕ). k + pick (eqb x (2 ^ k)) 1 0) (h f (omega arith)) (units-same a b f (λ g l. h g (omega arith)))
-
+-- no unit more where the next column is none
 units-stay : (a : List ℕ) (f : ℕ) → getD a f 0 < 2 ^ unitsBefore a f → unitsBefore a (suc f) ≡ unitsBefore a f
 unfolding unitsBefore
 units-stay a f h = rw (ne-eqb (getD a f 0) (2 ^ unitsBefore a f) (λ e. omega arith)) (omega arith)

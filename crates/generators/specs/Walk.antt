@@ -38,11 +38,6 @@ placed-total [] u k p = refl
 placed-total (q ∷ bs) u k p =
     ap₂ bitXor (placed-total bs u k (p .1)) (ap (λ (x : ℕ). x * bit (length bs) k) (p .0) ∙ swap (2 ^ q) (bit (length bs) k))
 
--- t after one more letter
-pub total-turn : (c : List ℕ) (i w t v : ℕ) → t ≡ total c i w → v ≡ bitXor t (getD c i 0 * bit i w) → v ≡ total c (i + 1) w
-unfolding total
-total-turn c i w t v e h = rw (add-one i) (h ∙ ap (λ (y : ℕ). bitXor y (getD c i 0 * bit i w)) e)
-
 -- an array that reads as a list, with one more
 snoc-read : (u xs : List ℕ) (x j : ℕ) → length xs ≡ j → j < length u → ((i : ℕ) → getD u i 0 ≡ getD xs i 0) → (i : ℕ) → getD (set u j x) i 0 ≡ getD (xs ++ (x ∷ [])) i 0
 snoc-read u xs x j e h same i =

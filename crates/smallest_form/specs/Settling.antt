@@ -8,6 +8,7 @@ use native.Mathlib.Decide.{ℕ-discrete, decLt}
 use lib.Bits.{bitXor, xor-zero-l, xor-zero-r}
 use lib.ListN.{length, getD, drop}
 use lib.Pow.{pow-pos}
+use Rattle.gf2.specs.Places.{place-in}
 use Rattle.regular.specs.Runs.{Runs, Agree, runsOf, switched}
 use Rattle.regular.specs.Columns.{planOf}
 use Rattle.regular.specs.Designs.{Holds, blank}
@@ -24,7 +25,6 @@ use Rattle.isomorphism_laws.specs.SamePlan.{carries-agree, same-refl, same-agre
 use Rattle.smallest_laws.specs.Beating.{smallest-moved}
 use Rattle.smallest_laws.specs.Exists.{switched-same}
 use Rattle.smallest_laws.specs.Growth.{smallest-equal, plan-equal}
-use Rattle.smallest_laws.specs.Presence.{at-in}
 use Rattle.lent.specs.Lends.{Lends}
 use Rattle.admission.specs.Admission.{Admission}
 use Rattle.canonical.specs.Forming.{SmallestForm}
@@ -211,7 +211,7 @@ table-within n g t l x i = by-cases (decLt x (2 ^ n)) (λ h. h) (λ h. absurd (n
 table-first : (n g : ℕ) (t : List ℕ) → Lowest (runsFaults n g t) 0 → getD t 0 0 < 2 ^ n
 table-first n g t l =
     let e : length t ≡ 2 ^ (n - g) = by-cases (ℕ-discrete (length t) (2 ^ (n - g))) (λ q. q) (λ ne. absurd (none-lowest (runsFaults n g t) l 4 (inr (TableFault.count ne)))) in
-    table-within n g t l (getD t 0 0) (at-in t 0 (omega (arith, pow-pos (n - g))))
+    table-within n g t l (getD t 0 0) (place-in t 0 (omega (arith, pow-pos (n - g))))
 
 unswitched : (s : Runs) → Agree (switched 0 s) s
 unswitched s = record { into = λ x h. subst s (xor-zero-r x) h; onto = λ x h. subst s (sym (xor-zero-r x)) h }

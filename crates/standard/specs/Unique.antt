@@ -1,20 +1,19 @@
 -- A set of runs has one list of standard columns.
-use mathlib.Core.Path.{_≡_, refl, sym, ap, ap₂, _∙_}
+use mathlib.Core.Path.{_≡_, refl, sym, ap, _∙_}
 use mathlib.Core.Logic.{by-cases}
 use mathlib.Core.List.{List}
 use Prim.Native.Nat.{ℕ, zero, suc, _+_, _-_, _*_, _/_, _%_, _^_, _≤_, _<_}
 use native.Mathlib.Nat.{mod-eq-of-lt, mod-lt}
 use native.Mathlib.Omega.{arith}
 use native.Mathlib.Decide.{ℕ-discrete}
-use lib.Dec.{eqb}
 use lib.Pow.{pow-pos, pow-lt, pow-mono, split}
 use lib.ListN.{getD}
 use Rattle.gf2.specs.DigitLaws.{bit-ext, low-bit}
-use Rattle.gf2.specs.Digits.{bit, odd, pick}
+use Rattle.gf2.specs.Digits.{bit, odd}
 use Rattle.gf2.specs.Parity.{odd-comm, odd-zero-l, odd-unit, odd-bit, by-parity, odd-mod}
 use Rattle.regular.specs.Columns.{runOf, planOf}
 use Rattle.standard.specs.Form.{unitsBefore, StandardForm}
-use Rattle.standard.specs.Units.{units-found, units-le, units-next}
+use Rattle.standard.specs.Units.{units-found, units-le, units-next, units-same}
 use Rattle.standard.specs.Runs.{run-bit}
 
 bit-mod : (u j i : ℕ) → i < u → bit i j ≡ bit i (j % 2 ^ u)
@@ -68,12 +67,6 @@ module _ (n m : ℕ) (f : ℕ) (hf : f < n) where
         (λ j l.
         let h : j < 2 ^ m = omega (arith, pow-mono {i = u} {j = m} hl) in
         level j h ∙ odd-mod u (other j h .0) (getD b f 0) hb ∙ ap (λ (y : ℕ). odd y (getD b f 0)) (sym (low j h) ∙ mod-eq-of-lt l))
-
-units-same : (a b : List ℕ) (f : ℕ) → ((g : ℕ) → g < f → getD a g 0 ≡ getD b g 0) → unitsBefore a f ≡ unitsBefore b f
-unfolding unitsBefore
-units-same a b zero h = refl
-units-same a b (suc f) h =
-    ap₂ (λ (x k : ℕ). k + pick (eqb x (2 ^ k)) 1 0) (h f (omega arith)) (units-same a b f (λ g l. h g (omega arith)))
 
 module _ (n m : ℕ) (a b : List ℕ) (sa : StandardForm n m a) (sb : StandardForm n m b) (into : (x : ℕ) → planOf n m a x → planOf n m b x) (onto : (x : ℕ) → planOf n m b x → planOf n m a x) where
   same-at : (f : ℕ) → f < n → ((g : ℕ) → g < f → getD a g 0 ≡ getD b g 0) → getD a f 0 ≡ getD b f 0

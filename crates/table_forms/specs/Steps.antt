@@ -3,7 +3,7 @@ use mathlib.Core.Path.{_≡_, refl, sym, ap, ap₂, _∙_, subst}
 use mathlib.Core.Logic.{by-cases}
 use mathlib.Core.Bool.{Bool, true, false}
 use mathlib.Core.List.{List, [], _∷_}
-use Prim.Native.Nat.{ℕ, zero, suc, _+_, _*_, _^_, _<_, _≤_}
+use Prim.Native.Nat.{ℕ, _+_, _*_, _^_, _<_, _≤_}
 use native.Mathlib.Nat.{two-pow-succ}
 use native.Mathlib.Numerals.{add-one}
 use native.Mathlib.Omega.{arith}
@@ -19,14 +19,15 @@ use Rattle.gf2.specs.DigitLaws.{bit-ext}
 use Rattle.gf2.specs.Lists.{image, image-length, in-image, of-image, fewer, upto, upto-lt, upto-length, upto-different}
 use Rattle.gf2.specs.Members.{In}
 use Rattle.gf2.specs.Parity.{odd-bit}
+use Rattle.gf2.specs.Places.{place-in, in-place}
 use Rattle.regular.specs.Runs.{Table}
 use Rattle.standard.specs.Basics.{Fits, Onto, fits-all, fits-keep, fits-fresh, onto-next}
 use Rattle.standard.specs.Coordinates.{coord-lt}
 use Rattle.standard.specs.Form.{unitsBefore}
 use Rattle.standard.specs.FromTable.{table-space, diffs-count}
 use Rattle.standard.specs.Model.{diffs, coordOf, fitsAll}
+use Rattle.standard.specs.Units.{units-same}
 use Rattle.table_forms.specs.declared.Walked.{Walked}
-use Rattle.table_forms.specs.Places.{place-in, in-place}
 use Rattle.table_forms.specs.Turns.{zeros-at, never, half-small}
 use Rattle.table_forms.specs.Walk.{diffAt, Held, Latest, Alone, Read, Candidate, FitsAt, Fitting, Extended, Walk, Followed, Grown, Reached}
 
@@ -54,10 +55,7 @@ fits-places bs t coords f k held h x m =
 -- columns with one more
 module _ (a : List ℕ) (f v : ℕ) where
   pub units-set : (g : ℕ) → g ≤ f → unitsBefore (set a f v) g ≡ unitsBefore a g
-  unfolding unitsBefore
-  units-set zero h = refl
-  units-set (suc g) h =
-      ap₂ (λ (x k : ℕ). k + pick (eqb x (2 ^ k)) 1 0) (getD-set-other a f g v 0 (λ e. omega arith)) (units-set g (omega arith))
+  units-set g h = units-same (set a f v) a g (λ i l. getD-set-other a f i v 0 (λ e. omega arith))
 
   pub units-more : (k : ℕ) → f < length a → unitsBefore a f ≡ k → unitsBefore (set a f v) (f + 1) ≡ k + pick (eqb v (2 ^ k)) 1 0
   unfolding unitsBefore
