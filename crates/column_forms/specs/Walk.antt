@@ -15,6 +15,7 @@ use lib.Pow.{pow-pos, pow-mono}
 use lib.ListN.{length, getD, set, replicate, length-append}
 use lib.Seq.{getD-set-same, getD-set-other}
 use Rattle.gf2.specs.DigitLaws.{pow-inj}
+use Rattle.gf2.specs.Fill.{zeros}
 use Rattle.regular.specs.Columns.{runOf, planOf, Below, Spans}
 use Rattle.regular.specs.Words.{total, Independent}
 use Rattle.standard.specs.Form.{unitsBefore, StandardFor, Found}
@@ -22,7 +23,7 @@ use Rattle.standard.specs.Runs.{run-lt, total-lt}
 use Rattle.standard.specs.Total.{total-none, InSpan, span-at, span-total, independent-once}
 use Rattle.standard.specs.Units.{units-next, units-same}
 use Rattle.column_forms.specs.Tables.{Held, Doubles, Grown}
-use Rattle.column_forms.specs.TableLaws.{blank-at, held-more, held-same}
+use Rattle.column_forms.specs.TableLaws.{held-more, held-same}
 use Rattle.column_forms.specs.Basis.{independent-few, independent-spans, spans-many, more-old, more-new, more-low, more-high, more-unit, more-independent, run-through, runs-all}
 
 -- after f of the n columns c: the basis has the columns that were no sum of those before them, in their order; sums holds what it reaches,
@@ -76,7 +77,7 @@ pub walk-none : (n m : ℕ) (c : List ℕ) → Walk n m c 0 1 (replicate 128 0) 
 unfolding unitsBefore total
 walk-none n m c =
     let blank : Held (λ k. 0) 0 (replicate 128 0) (replicate 128 0) =
-    record { filled = λ i h. absurd (omega arith); back = λ i h. absurd (omega arith); only = λ v i e. absurd (omega (arith, blank-at 128 v)) } in
+    record { filled = λ i h. absurd (omega arith); back = λ i h. absurd (omega arith); only = λ v i e. absurd (omega (arith, zeros 128 v)) } in
     record {
       basis = [];
       rank = 0;
@@ -88,7 +89,7 @@ walk-none n m c =
       units = refl;
       next = λ g h. absurd (omega arith);
       column = λ g h. absurd (omega arith);
-      unused = λ g h. blank-at 16 g;
+      unused = λ g h. zeros 16 g;
     }
 
 module _ (n m : ℕ) (c : List ℕ) (f half : ℕ) (sums places a : List ℕ) (w : Walk n m c f half sums places a) where

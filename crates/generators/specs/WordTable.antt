@@ -1,7 +1,7 @@
 -- The array of the reduced words of standard columns, and what it is for the plan of the columns.
-use mathlib.Core.Path.{_≡_, refl}
-use mathlib.Core.List.{List, [], _∷_}
-use Prim.Native.Nat.{ℕ, zero, suc, _-_, _≤_}
+use mathlib.Core.Path.{_≡_}
+use mathlib.Core.List.{List}
+use Prim.Native.Nat.{ℕ, _-_}
 use native.Mathlib.Omega.{arith}
 use lib.ListN.{length, getD}
 use Rattle.regular.specs.Runs.{Runs}
@@ -14,12 +14,6 @@ use Rattle.words.specs.ReducedUnique.{generators-generators}
 pub record WordTable (n : ℕ) (a r : List ℕ) : Type 0 where
   pub places : length r ≡ 16
   pub word : (i : ℕ) → getD r i 0 ≡ getD (wordsTo a n) i 0
-
--- past its end a list reads as 0
-pub past : (xs : List ℕ) (i : ℕ) → length xs ≤ i → getD xs i 0 ≡ 0
-past [] i h = refl
-past (x ∷ xs) zero h = absurd (omega arith)
-past (x ∷ xs) (suc i) h = past xs i (omega arith)
 
 -- for columns in standard form with the runs of s
 module _ (n m : ℕ) (s : Runs) (a r : List ℕ) (st : StandardFor n m s a) (t : WordTable n a r) where

@@ -20,6 +20,7 @@ use Rattle.gf2.specs.Lists.{image, image-length, in-image, of-image, fewer, upt
 use Rattle.gf2.specs.Members.{In}
 use Rattle.gf2.specs.Parity.{odd-bit}
 use Rattle.gf2.specs.Places.{place-in, in-place}
+use Rattle.gf2.specs.Fill.{zeros}
 use Rattle.regular.specs.Runs.{Table}
 use Rattle.standard.specs.Basics.{Fits, Onto, fits-all, fits-keep, fits-fresh, onto-next}
 use Rattle.standard.specs.Coordinates.{coord-lt}
@@ -28,7 +29,7 @@ use Rattle.standard.specs.FromTable.{table-space, diffs-count}
 use Rattle.standard.specs.Model.{diffs, coordOf, fitsAll}
 use Rattle.standard.specs.Units.{units-same}
 use Rattle.table_forms.specs.declared.Walked.{Walked}
-use Rattle.table_forms.specs.Turns.{zeros-at, never, half-small}
+use Rattle.table_forms.specs.Turns.{never, half-small}
 use Rattle.table_forms.specs.Walk.{diffAt, Held, Latest, Alone, Read, Candidate, FitsAt, Fitting, Extended, Walk, Followed, Grown, Reached}
 
 -- the differences are those of the places
@@ -90,14 +91,14 @@ walk-start m t place l =
       basics = refl;
       few = omega arith;
       half = refl;
-      held = λ i h. zeros-at 128 i;
+      held = λ i h. zeros 128 i;
       latest = l;
       onto = λ n tab j h. (0, (table-space n m t tab .zero-in, omega arith));
       size = refl;
       fits = λ g h. absurd (omega arith);
       next = λ g h. absurd (omega arith);
       units = refl;
-      unused = λ g h. zeros-at 16 g;
+      unused = λ g h. zeros 16 g;
     }
 
 -- a factor that follows the basic factors
