@@ -7,4 +7,5 @@ pub mod Basics
 pub mod FromTable
 pub mod FromColumns
 pub mod Units
+pub mod NextColumn
 pub mod Plans
