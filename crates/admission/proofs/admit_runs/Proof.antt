@@ -5,11 +5,10 @@ use mathlib.Core.List.{List}
 use borrow.Author.Needs.{needs}
 use Rattle.admission.proofs.admit_runs.Statement.{statement}
 use Rattle.admission.proofs.admit_runs.Tie as tie
-use Rattle.admission.specs.Admitting.{answered, size-refusal, plan-refusal, accepted, size-0, table-0, table-4, table-5, table-6, table-7}
-use Rattle.admission.specs.Admission.{Admission}
-use lib.ListN.{length, getD, replicate}
+use Rattle.admission.specs.Admitting.{answered, size-refusal, accepted, table-0, table-4, table-5, table-6, table-7, plan-answered}
+use lib.ListN.{length, getD}
 use borrow.Author.Tests.{not-false, not-true}
-use Rattle.regular.specs.Refusals.{runsFaults, TableFault, Lowest}
+use Rattle.regular.specs.Refusals.{runsFaults, TableFault}
 use Prim.Native.Nat.{_^_, _-_, ℕ, _<_}
 use Rattle.standard.specs.Units.{standard-below, below-128}
 use Rattle.standard.specs.Form.{StandardFor}
@@ -17,7 +16,6 @@ use Rattle.regular.specs.Runs.{switched, runsOf, Runs}
 use Rattle.gf2.specs.Members.{In, different-or-not}
 use Rattle.regular.specs.RefusalLaws.{table-least}
 use Rattle.regular.specs.Sizes.{Size}
-use Rattle.regular.specs.declared.Admitted.{Admitted}
 use Rattle.words.specs.Switches.{no-short-switched, short-switched}
 use Rattle.words.specs.Short.{plain-long, repeat-short}
 
@@ -57,13 +55,6 @@ standard : (c : tie.Else4)
     → StandardFor (start-4 c .args .n) (start-4 c .args .n - start-4 c .args .g) (plan (start-4 c)) (c .before .before .table-columns .result .columns)
 standard c = c .before .before .table-columns .ensures .standard (not-false _ (c .if4 .left))
 
--- a refusal by a fault of the table
-refused : (s : tie.Start) (k : ℕ) → 0 < k → Size (s .args .n) (s .args .g) → Lowest (fault s) k → (r : Admitted) → r ≡ record { number = k; columns = replicate 16 0 }
-    → Admission (runsFaults (s .args .n) (s .args .g) (runs s)) (s .args .n) (s .args .g) (plan s) (r .number) (r .columns)
-refused s k h z l r e =
-    answered (runsFaults (s .args .n) (s .args .g) (runs s)) (s .args .n) (s .args .g) (plan s) k r e
-    (plan-refusal (fault s) (s .args .n) (s .args .g) (plan s) k h (size-0 (s .args .n) (s .args .g) z) l)
-
 size-number-requires : tie.Need-size-number-requires
 size-number-requires c κs = search needs
 
@@ -91,7 +82,7 @@ returns-2 : tie.Need-returns-2
 returns-2 c =
     let o = c .before .before .before in
     let s = start o in
-    refused s 4 (omega arith) (sized o)
+    plan-answered (fault s) (s .args .n) (s .args .g) (plan s) 4 (omega arith) (sized o)
     (table-4 (s .args .n) (s .args .n - s .args .g) (runs s) (λ e. c .before .if2 .taken (e ∙ sym (c .before .before .power .ensures .0))))
     (c .refused2 .result) (c .refused2 .ensures)
 
@@ -109,7 +100,7 @@ returns-3 c =
     let o = c .before .before .before .before in
     let s = start-2 o in
     let w = c .before .before .all-below .ensures .1 (not-true _ (c .before .if3 .taken)) in
-    refused s 5 (omega arith) (sized (o .before .before))
+    plan-answered (fault s) (s .args .n) (s .args .g) (plan s) 5 (omega arith) (sized (o .before .before))
     (table-5 (s .args .n) (s .args .n - s .args .g) (runs s) (counted o) (w .0) (w .1 .0) (omega (arith, c .before .before .before .power2 .ensures .0, w .1 .1)))
     (c .refused3 .result) (c .refused3 .ensures)
 
@@ -127,7 +118,7 @@ returns-4 c =
     let u = c .before .before .before .before in
     let o = u .before .before .before in
     let s = start-3 u in
-    refused s 6 (omega arith) (sized (o .before .before))
+    plan-answered (fault s) (s .args .n) (s .args .g) (plan s) 6 (omega arith) (sized (o .before .before))
     (table-6 (s .args .n) (s .args .n - s .args .g) (runs s) (counted o) (low u) (different-or-not (runs s))
     (c .before .before .before .table-columns .ensures .impossible (not-true _ (c .before .if4 .taken))))
     (c .refused4 .result) (c .refused4 .ensures)
@@ -150,7 +141,7 @@ returns-5 c =
     let o = u .before .before .before in
     let s = start-4 v in
     let d = v .before .before .table-columns in
-    refused s 7 (omega arith) (sized (o .before .before))
+    plan-answered (fault s) (s .args .n) (s .args .g) (plan s) 7 (omega arith) (sized (o .before .before))
     (table-7 (s .args .n) (s .args .n - s .args .g) (runs s) (counted o) (low u) (d .ensures .possible (not-false _ (v .if4 .left)))
     (short-switched (s .args .n) (getD (runs s) 0 0) (runsOf (runs s)) 3
     (repeat-short (s .args .n) (s .args .n - s .args .g) (plan s) (d .result .columns) (standard v) (c .before .before .plain .ensures .1 (not-true _ (c .before .if5 .taken))))))
