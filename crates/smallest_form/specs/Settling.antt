@@ -29,7 +29,7 @@ use Rattle.lent.specs.Lends.{Lends}
 use Rattle.admission.specs.Admission.{Admission}
 use Rattle.canonical.specs.Forming.{SmallestForm}
 use Rattle.smallest_form.specs.Answers.{Reduces, ReducesInto}
-use Rattle.smallest_form.specs.Moving.{moved-names, carries-names}
+use Rattle.isomorphism_laws.specs.Moving.{moved-names, carries-names}
 use Rattle.smallest_form.specs.declared.SmallestAnswer.{SmallestAnswer}
 
 -- a plan's refusal x and then that of a lent list with `places`, of which n are wanted

@@ -74,9 +74,6 @@ pub fits-fresh : (bs u : List ℕ) (f : ℕ) → Fits (f ∷ bs) u f (2 ^ length
 unfolding coordOf
 fits-fresh bs u f x m = sym (odd-fresh (length bs) (bit f x) (coordOf bs x) (omega arith) (coord-lt bs x))
 
-low-digit : (d : ℕ) → d < 2 → (d ≡ 0 → ⊥) → d ≡ 1
-low-digit d h ne = omega arith
-
 module _ (u : List ℕ) (closed : (x y : ℕ) → In x u → In y u → In (bitXor x y) u) where
   -- f's level hangs on those of the basics: then some column fits
   module _ (bs : List ℕ) (f : ℕ) (onto : Onto bs u) (hangs : (x : ℕ) → In x u → coordOf bs x ≡ 0 → bit f x ≡ 0) where

@@ -16,7 +16,6 @@ use lib.ListN.{length, getD, length-append, List·getD-append}
 use lib.Seq.{getD-at}
 use Rattle.gf2.specs.Digits.{bit, odd, pick}
 use Rattle.gf2.specs.Parity.{odd-lin-l, odd-lt, odd-zero-l, odd-shift, odd-mod, odd-zero-r}
-use Rattle.gf2.specs.Truth.{pick-le}
 use Rattle.regular.specs.Columns.{runOf}
 use Rattle.regular.specs.Words.{total, Generated, Independent}
 use Rattle.standard.specs.Basics.{Fits, fits-keep, fits-fresh}
@@ -55,11 +54,6 @@ wc-last piv f = getD-at (wordColumns piv f) _ [] 0 f (wc-length piv f)
 free-start : (piv : List ℕ) → freeBefore piv 0 ≡ 0
 unfolding freeBefore
 free-start piv = refl
-
-free-le : (piv : List ℕ) (k : ℕ) → freeBefore piv k ≤ k
-unfolding freeBefore
-free-le piv zero = omega arith
-free-le piv (suc k) = omega (arith, free-le piv k, pick-le (eqb (getD piv k 0) 0))
 
 pub free-length : (piv : List ℕ) (n : ℕ) → length (freeAt piv n) ≡ freeBefore piv n
 unfolding freeAt freeBefore
