@@ -8,4 +8,5 @@ pub mod Refusals
 pub mod RefusalLaws
 pub mod Same
 pub mod Smallest
+pub mod SmallestAnswers
 pub mod Comparisons
