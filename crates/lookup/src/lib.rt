@@ -1,9 +1,9 @@
 // The first place of a plan in a lent list of plans, as records or as columns one after another. Public for the calls on the smallest form.
 ghost use mathlib.Core.Path.{_≡_};
 ghost use mathlib.Core.Bool.{true, false};
-ghost use Prim.Native.Nat.{ℕ, _+_, _≤_};
+ghost use Prim.Native.Nat.{ℕ, _+_, _<_, _≤_};
 ghost use lib.ListN.{length, getD};
-ghost use Rattle.regular.specs.SmallestAnswers.{DesignPlace};
+ghost use Rattle.regular.specs.SmallestAnswers.{DesignPlace, ColumnsPlace};
 ghost use Rattle.lookup.specs.Looking.{Decides, Looked};
 use regular::Design;
 
@@ -62,4 +62,36 @@ pub fn first_place(list: &[Design], d: Design) -> usize
         i = place;
     }
     found
+}
+
+// Whether the plan of n columns from place base on has the columns c.
+fn same_at(n: usize, list: &[u8], base: usize, c: [u8; 16]) -> bool
+    requires { ⌜ (n ≤ 16) × (base + n ≤ length (now list)) ⌝ }
+    ensures { λ r. ⌜ Decides r ((f : ℕ) → f < n → getD (now (list .entry)) (base + f) 0 ≡ getD c f 0) ⌝ }
+{
+    let mut f: usize = 0;
+    while f < n {
+        if list[base + f] != c[f] {
+            return false;
+        }
+        f += 1;
+    }
+    true
+}
+
+// The first place, from 1, of n columns in a list of plans one after another, 0 if they are absent.
+pub fn first_columns(n: usize, list: &[u8], c: [u8; 16]) -> usize
+    requires { ⌜ (1 ≤ n) × (n ≤ 16) ⌝ }
+    ensures { λ r. ⌜ ColumnsPlace n (now (list .entry)) c r ⌝ }
+{
+    let mut base: usize = 0;
+    let mut place: usize = 0;
+    while n <= list.len() - base {
+        place += 1;
+        if same_at(n, list, base, c) {
+            return place;
+        }
+        base += n;
+    }
+    0
 }

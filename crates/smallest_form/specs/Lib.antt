@@ -1,3 +1,5 @@
-pub mod Answers
+pub mod Lending
 pub mod Moving
 pub mod Settling
+pub mod Formed
+pub mod Placed
