@@ -10,8 +10,8 @@ ghost use Rattle.regular.specs.Pattern.{Pattern, Resolution, Distances, LessAbe
 ghost use Rattle.regular.specs.Refusals.{wordsFaults, runsFaults, columnsFaults, LentFault, either, Lowest, Chooses, Fills};
 ghost use Rattle.regular.specs.Comparisons.{Compares, Checks, Witness, Told, comparedNumber, checkedNumber};
 ghost use Rattle.smallest_form.specs.Answers.{ReducesInto};
-ghost use Rattle.catalogue.specs.Lists.{ListsBytes};
-use catalogue::CatalogueAnswer;
+ghost use Rattle.regular.specs.Catalogues.{ListsBytes};
+use regular::CatalogueAnswer;
 use regular::Checked;
 use regular::Compared;
 

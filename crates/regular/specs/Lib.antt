@@ -10,4 +10,5 @@ pub mod PlanLists
 pub mod Same
 pub mod Smallest
 pub mod SmallestAnswers
+pub mod Catalogues
 pub mod Comparisons

@@ -62,6 +62,20 @@ pub struct MaskAnswer {
     pub place: usize,
 }
 
+// A refusal's number, 0 if accepted, and how many entries the lent list holds: none if refused by 1, 2 or 3.
+#[repr(C)]
+pub struct CatalogueAnswer {
+    pub number: u8,
+    pub count: usize,
+}
+
+// A refusal's number, 0 if accepted, and how many bytes the lent list holds: none if refused.
+#[repr(C)]
+pub struct BookAnswer {
+    pub number: u8,
+    pub count: usize,
+}
+
 // What a comparison of two plans finds: the same, with the mask of the witness; different, with the first length where the patterns differ, 0
 // if they agree; or the refusal's number.
 pub enum Compared {

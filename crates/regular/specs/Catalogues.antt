@@ -1,13 +1,16 @@
--- What the catalogue's call answers, and what the lent list holds. Definitions only.
+-- What the catalogue's call answers, and what the lent list holds (document 01, "Same plan, smallest form, catalogue"). Definitions only.
 use mathlib.Core.Path.{_≡_}
 use mathlib.Core.List.{List}
 use Prim.Native.Nat.{ℕ, suc, _*_, _-_, _≤_, _<_}
 use lib.ListN.{length, getD, drop}
 use Rattle.regular.specs.Designs.{Holds, blank}
-use Rattle.regular.specs.Refusals.{Lowest}
+use Rattle.regular.specs.Refusals.{Lowest, RoomFault, either, sizeFaults}
 use Rattle.regular.specs.Smallest.{Equal, Entry, Catalogue}
 use Rattle.regular.specs.declared.Design.{Design}
-use Rattle.catalogue.specs.Faults.{catalogueFaults}
+
+-- the sizes and the resolution by 1 to 3, and by 9 a catalogue with more entries than there is room for
+abbrev pub catalogueFaults : ℕ → ℕ → ℕ → (ℕ → Type 0) → ℕ → Type 0
+catalogueFaults n g r room = either (sizeFaults n g r) (RoomFault n (n - g) r room)
 
 -- the first of the catalogue's entries, as many as there is room for
 pub record Begins (n m r : ℕ) (room : ℕ → Type 0) (entry : ℕ → List ℕ) (count : ℕ) : Type 0 where
