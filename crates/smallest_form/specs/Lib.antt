@@ -1,5 +1,2 @@
-pub mod Lending
-pub mod Moving
-pub mod Settling
-pub mod Formed
 pub mod Placed
+pub mod Each

@@ -19,8 +19,8 @@ use Rattle.regular.specs.declared.SmallestAnswer.{SmallestAnswer}
 use Rattle.regular.specs.declared.MaskAnswer.{MaskAnswer}
 use Rattle.isomorphism_laws.specs.SamePlan.{carries-agree}
 use Rattle.smallest_laws.specs.Growth.{smallest-equal, plan-equal}
-use Rattle.smallest_form.specs.Lending.{Lending, Lent, lending-lowest, lending-accepted}
-use Rattle.smallest_form.specs.Formed.{Formed}
+use Rattle.reduction.specs.Lending.{Lending, Lent, lending-lowest, lending-accepted}
+use Rattle.reduction.specs.Formed.{Formed}
 
 -- a place shown only if the form is accepted
 pub record Shown (number place at : ℕ) : Type 0 where

@@ -25,8 +25,8 @@ use Rattle.smallest_laws.specs.Beating.{smallest-moved}
 use Rattle.smallest_laws.specs.Exists.{switched-same}
 use Rattle.smallest_laws.specs.Presence.{at-in}
 use Rattle.admission.specs.Admission.{Admission}
-use Rattle.smallest_form.specs.Lending.{Lending, lending-accepted}
-use Rattle.smallest_form.specs.Settling.{Settles}
+use Rattle.reduction.specs.Lending.{Lending, lending-accepted}
+use Rattle.reduction.specs.Settling.{Settles}
 
 -- the smallest form of the plan s with its faults, and a witness to it, where the other arguments but the lent list have the number `other`
 pub record Formed (fault : ℕ → Type 0) (n g : ℕ) (s : Runs) (Mask : ℕ → Type 0) (other : ℕ) (entry exit : List ℕ) (r : SmallestAnswer) : Type 0 where

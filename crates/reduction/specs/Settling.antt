@@ -15,8 +15,8 @@ use Rattle.regular.specs.declared.SmallestAnswer.{SmallestAnswer}
 use Rattle.standard.specs.Form.{StandardForm, Plain}
 use Rattle.admission.specs.Admission.{Admission}
 use Rattle.canonical.specs.Forming.{SmallestForm}
-use Rattle.smallest_form.specs.Lending.{Lending, Lent}
-use Rattle.smallest_form.specs.Moving.{moved-names, carries-names}
+use Rattle.reduction.specs.Lending.{Lending, Lent}
+use Rattle.reduction.specs.Moving.{moved-names, carries-names}
 
 -- the standard columns of an accepted plan
 pub record Ready (n g : ℕ) (a : List ℕ) : Type 0 where
