@@ -26,12 +26,13 @@ pub record Reduced (n m : ℕ) (columns filled exit : List ℕ) : Type 0 where
 pub record ReducedTo (n m : ℕ) (plans : List ℕ) (base : ℕ) (out filled entry exit : List ℕ) : Type 0 where
   pub count : ℕ
   pub place : base ≡ count * n
+  pub within : base ≤ length plans
   pub each : (i : ℕ) → i < count → Reduced n m (planAt n plans i) (planAt n filled i) (planAt n exit i)
   pub rest : (drop base filled ≡ drop base out) × (drop base exit ≡ drop base entry)
   pub size : (length filled ≡ length out) × (length exit ≡ length entry)
 
 -- zs is xs with the list ys at the k places from base on
-abbrev pub splice : ℕ → ℕ → List ℕ → List ℕ → List ℕ
+abbrev splice : ℕ → ℕ → List ℕ → List ℕ → List ℕ
 splice base k xs ys = take base xs ++ (ys ++ drop k (drop base xs))
 
 module _ (base k : ℕ) (xs ys : List ℕ) (fits : base + k ≤ length xs) (whole : length ys ≡ k) where
@@ -81,11 +82,11 @@ module _ (n g : ℕ) (plans : List ℕ) (low : Lowest (plansFaults n g plans) 0)
   plan-next base count e h = by-cases (decLt (length plans) (suc count * n)) (λ l. absurd (none-lowest (plansFaults n g plans) low 4 (inr (inl (BytesFault.count (never l)))))) (λ l. omega arith)
     where
       never : length plans < suc count * n → (whole : ℕ) → length plans ≡ whole * n → ⊥
-      never l whole q = by-cases (decLt count whole) (λ h. omega (arith, mul-le-mul-right {m = suc count} {n = whole} n h)) (λ h. omega (arith, mul-le-mul-right {m = whole} {n = count} n (omega arith)))
+      never l whole q = by-cases (decLt count whole) (λ p. omega (arith, mul-le-mul-right {m = suc count} {n = whole} n p)) (λ p. omega (arith, h, mul-le-mul-right {m = whole} {n = count} n (omega arith)))
 
   module _ (out entry : List ℕ) (room : length plans ≤ length out) (place : length plans ≤ length entry) where
     pub reduced-none : ReducedTo n (n - g) plans 0 out out entry entry
-    reduced-none = record { count = 0; place = omega arith; each = λ i h. absurd (omega arith); rest = (refl, refl); size = (refl, refl) }
+    reduced-none = record { count = 0; place = omega arith; within = omega arith; each = λ i h. absurd (omega arith); rest = (refl, refl); size = (refl, refl) }
 
     module _ (base : ℕ) (filled exit : List ℕ) (t : ReducedTo n (n - g) plans base out filled entry exit) (h : base < length plans) where
       next : HasPlan n plans (t .count)
@@ -98,14 +99,15 @@ module _ (n g : ℕ) (plans : List ℕ) (low : Lowest (plansFaults n g plans) 0)
       reduced-fits = (omega (arith, reduced-room, t .size .0), omega (arith, reduced-room, t .size .1))
 
       -- the columns of the next plan
-      pub reduced-accepted : Lowest (columnsFaults n g (take n (drop base plans))) 0
+      reduced-accepted : Lowest (columnsFaults n g (take n (drop base plans))) 0
       reduced-accepted = subst (λ (b : ℕ). Lowest (columnsFaults n g (take n (drop b plans))) 0) (sym (t .place)) (plan-accepted (t .count) next)
 
-      pub reduced-more : (form names : List ℕ) → Reduced n (n - g) (take n (drop base plans)) form names
+      reduced-more : (form names : List ℕ) → Reduced n (n - g) (take n (drop base plans)) form names
           → ReducedTo n (n - g) plans (base + n) out (splice base n filled form) entry (splice base n exit names)
       reduced-more form names r = record {
         count = suc (t .count);
         place = omega (arith, t .place, suc-mul (t .count) n);
+        within = reduced-room;
         each = each;
         rest = (
           splice-rest base n filled form (reduced-fits .0) (r .size .0) ∙ farther filled out (t .rest .0),
@@ -132,6 +134,20 @@ module _ (n g : ℕ) (plans : List ℕ) (low : Lowest (plansFaults n g plans) 0)
                   let under : suc i * n ≤ base = omega (arith, t .place, mul-le-mul-right {m = suc i} {n = t .count} n (omega arith)) in
                   subst (λ (c : List ℕ). Reduced n (n - g) (planAt n plans i) c (planAt n (splice base n exit names) i)) (sym (splice-plan n base filled form (reduced-fits .0) (r .size .0) i under))
                   (subst (Reduced n (n - g) (planAt n plans i) (planAt n filled i)) (sym (splice-plan n base exit names (reduced-fits .1) (r .size .1) i under)) (t .each i (omega arith)))
+
+      -- a turn, on the k places from base on
+      module _ (k : ℕ) (e : k ≡ n) where
+        pub turn-columns : Lowest (columnsFaults n g (take k (drop base plans))) 0
+        turn-columns = subst (λ (j : ℕ). Lowest (columnsFaults n g (take j (drop base plans))) 0) (sym e) reduced-accepted
+
+        pub turn-place : (xs : List ℕ) → base + n ≤ length xs → length (take k (drop base xs)) ≡ n
+        turn-place xs h = length-take-le k (drop base xs) (omega (arith, length-drop base xs)) ∙ e
+
+        pub turn-more : (form names : List ℕ) → Reduced n (n - g) (take k (drop base plans)) form names
+            → ReducedTo n (n - g) plans (base + n) out (splice base k filled form) entry (splice base k exit names)
+        turn-more form names r =
+            subst (λ (j : ℕ). ReducedTo n (n - g) plans (base + n) out (splice base j filled form) entry (splice base j exit names)) (sym e)
+            (reduced-more form names (subst (λ (j : ℕ). Reduced n (n - g) (take j (drop base plans)) form names) e r))
 
 -- the call's answer
 pub each-refused : (fault : ℕ → Type 0) (n m : ℕ) (plans out entry : List ℕ) (k : ℕ) → (k ≡ 0 → ⊥) → Lowest fault k → ReducesEach fault n m plans out out entry entry k

@@ -1,2 +1,3 @@
+pub mod Others
 pub mod Placed
 pub mod Each
