@@ -7,7 +7,7 @@ use native.Mathlib.Decide.{ℕ-discrete, decLt}
 use native.Mathlib.Nat.{mul-le-mul-right, suc-mul}
 use native.Mathlib.Omega.{arith}
 use lib.ListN.{length, getD, take, drop, length-append, length-drop, List·getD-append}
-use lib.Seq.{length-take-le, take-at, drop-at, drop-drop, getD-take, getD-drop, ext-getD, drop-append-add}
+use lib.Seq.{length-take-le, take-at, drop-at, drop-drop, getD-take, getD-drop, ext-getD}
 use Rattle.regular.specs.Columns.{planOf}
 use Rattle.regular.specs.PlanLists.{HasPlan, planAt, plansFaults, BytesFault}
 use Rattle.regular.specs.Refusals.{SizeFault, Lowest, columnsFaults}

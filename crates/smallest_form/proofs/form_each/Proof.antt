@@ -1,5 +1,5 @@
 -- `smallest_form::form_each` meets its contract: the plans before base have their forms; the measure is what is left of the plans. Assumes nothing.
-use Prim.Native.Nat.{ℕ, _+_, _-_, _≤_}
+use Prim.Native.Nat.{ℕ, _+_, _-_}
 use mathlib.Core.Path.{_≡_, subst}
 use native.Mathlib.Omega.{arith}
 use lib.ListN.{length}

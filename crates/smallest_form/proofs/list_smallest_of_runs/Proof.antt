@@ -1,5 +1,5 @@
 -- `smallest_form::list_smallest_of_runs` meets its contract: the list and the lent list are judged first, then the plan; its form is lent and looked for. Assumes nothing.
-use Prim.Native.Nat.{ℕ, _-_}
+use Prim.Native.Nat.{_-_}
 use mathlib.Core.Path.{_≡_}
 use Rattle.regular.specs.Runs.{runsOf}
 use Rattle.regular.specs.Same.{moved}

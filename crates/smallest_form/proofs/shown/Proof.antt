@@ -3,7 +3,6 @@ use mathlib.Core.Path.{refl}
 use native.Mathlib.Omega.{arith}
 use Rattle.smallest_form.proofs.shown.Statement.{statement}
 use Rattle.smallest_form.proofs.shown.Tie as tie
-use borrow.Author.Needs.{needs}
 
 returns : tie.Need-returns
 returns c = record { found = λ e. absurd (c .if1 .taken e); refused = λ _. refl }

@@ -1,5 +1,5 @@
 -- `smallest_form::smallest_of_plans` meets its contract: all plans and both lists are judged before any form is written. Assumes nothing.
-use Prim.Native.Nat.{ℕ, _-_}
+use Prim.Native.Nat.{_-_}
 use mathlib.Core.Path.{subst}
 use lib.ListN.{length}
 use Rattle.regular.specs.PlanLists.{plansFaults}
