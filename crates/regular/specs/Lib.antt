@@ -9,5 +9,6 @@ pub mod RefusalLaws
 pub mod PlanLists
 pub mod Same
 pub mod Smallest
+pub mod SmallestAnswers
 pub mod Catalogues
 pub mod Comparisons
