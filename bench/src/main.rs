@@ -7,7 +7,7 @@ mod plain;
 
 use families::{Draw, Family};
 use plain::admission::admit;
-use plan_tests::planner::plan_compare_columns;
+use planner::plan_compare_columns;
 use std::hint::black_box;
 use std::time::Instant;
 

@@ -4,7 +4,7 @@ use crate::calls::{call, every_call, name, questions, Given};
 use crate::check::measures::{first_difference, pattern, second_is_better};
 use crate::check::plan::{places, Form, Plan, Question};
 use crate::check::refusals::{accepted, lowest, of_sizes};
-use crate::planner::{plan_aberration_refusal, plan_less_aberration};
+use crate::guarded::{plan_aberration_refusal, plan_less_aberration};
 use crate::random::Random;
 
 /// What a call on one plan may answer: 0, or the number of a refusal.

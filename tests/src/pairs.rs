@@ -2,7 +2,7 @@
 
 use crate::calls::{bytes, guarded, shorts, MARGIN};
 use crate::check::plan::Form;
-use crate::planner::{plan_check_witness, plan_compare_columns, plan_compare_runs};
+use crate::guarded::{plan_check_witness, plan_compare_columns, plan_compare_runs};
 
 /// Two plans in one form, columns or runs, with their sizes, as a call takes them.
 #[derive(Clone, Debug, PartialEq, Eq)]

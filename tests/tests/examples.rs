@@ -1,6 +1,6 @@
 //! The examples of document 01, called through the exported functions.
 
-use plan_tests::planner::*;
+use plan_tests::guarded::*;
 
 const ABCD: u16 = 0b1111;
 const CDEF: u16 = 0b111100;

@@ -3,7 +3,7 @@
 use std::collections::BTreeSet;
 
 const HEADER: &str = include_str!("../../include/planner.h");
-const DECLARED: &str = include_str!("../src/planner.rs");
+const DECLARED: &str = include_str!("../planner/src/lib.rs");
 
 /// The names of the functions that a text declares: those that stand between this text and an opening parenthesis.
 fn declared(text: &str, before: &str) -> BTreeSet<String> {
@@ -13,7 +13,8 @@ fn declared(text: &str, before: &str) -> BTreeSet<String> {
 
 #[test]
 fn the_header_declares_exactly_the_functions_that_the_tests_call() {
-    let header: BTreeSet<String> = ["uint8_t ", "uint32_t ", "struct plan_entries "].iter().flat_map(|answer| declared(HEADER, answer)).collect();
+    let header: BTreeSet<String> =
+        ["uint8_t ", "uint32_t ", "struct plan_entries "].iter().flat_map(|answer| declared(HEADER, answer)).collect();
     assert_eq!(header, declared(DECLARED, "pub fn "), "in the header, and in the tests");
     assert_eq!(header.len(), 21, "{header:?}");
 }

@@ -1,4 +1,5 @@
-//! The exported functions of the Rattle crate `planner`, and a safe call of each.
+//! The plan library for a Rust program: a safe function for each exported one of the Rattle crate `planner`, under its name.
+//! `include/planner.h` is the manual.
 //!
 //! A list goes as a pointer and then its count of elements. Each call on one plan answers the number of document 01's refusal, 0 if it
 //! accepts; a refused call leaves the lent list untouched, and an accepted one leaves the places past its result untouched.
@@ -274,25 +275,14 @@ pub fn plan_smallest_of_columns(n: usize, g: usize, columns: &[u8], smallest: &m
 
 /// The catalogue's answer: a refusal's number, 0 if accepted, and how many entries the list holds.
 #[repr(C)]
+#[derive(Clone, Copy, Debug, PartialEq, Eq)]
 pub struct Entries {
     pub number: u8,
     pub count: usize,
 }
 
-/// The catalogue, its entries one after another, N columns each: 0x10000 and the entry count if the list has room for all, else the
-/// refusal's number, which is 9 where the list holds the first entries only.
-pub fn plan_catalogue(n: usize, g: usize, r: usize, columns: &mut [u8]) -> u32 {
+/// The catalogue, its entries one after another, N columns each, as many as the list has room for. Refused by 9 where it has more.
+pub fn plan_catalogue(n: usize, g: usize, r: usize, columns: &mut [u8]) -> Entries {
     // SAFETY: the list is valid for the count given with it, and the call does not keep it.
-    let found = unsafe { exported::plan_catalogue(n, g, r, columns.as_mut_ptr(), columns.len()) };
-    match found.number {
-        0 => 0x10000 + u32::try_from(found.count).expect("fewer than 2^32 entries"),
-        9 => {
-            assert_eq!(found.count, columns.len() / n, "refused by 9, the list is full");
-            9
-        }
-        number => {
-            assert_eq!(found.count, 0, "refused by {number}, no entries");
-            u32::from(number)
-        }
-    }
+    unsafe { exported::plan_catalogue(n, g, r, columns.as_mut_ptr(), columns.len()) }
 }
