@@ -5,7 +5,7 @@
 //! `calls` makes one call on a plan with a guarded result list, `compare` holds its outcome against the checking program; `pairs` and
 //! `compare_pairs` do so for the comparison of two plans, `catalogues` for the smallest form and the catalogue. `random` is a small
 //! generator with a seed, `samples` makes plans from it, good and damaged, `known` and `hard` plans that are compared in pairs, and
-//! `published` reads the rows of document 000's Appendix B.
+//! `published` reads the rows of document 000's Appendix B. `trial` makes any number of calls of every function.
 
 pub mod calls;
 pub mod catalogues;
@@ -21,3 +21,4 @@ pub mod published;
 pub mod random;
 pub mod records;
 pub mod samples;
+pub mod trial;
