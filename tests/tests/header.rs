@@ -38,3 +38,20 @@ fn every_function_is_called_with_guarded_lists() {
     let lines = GUARDED.lines().map(|line| line.strip_prefix("guarded!(").unwrap_or(line)).filter(|line| !line.starts_with(' '));
     assert_eq!(of_the_header(), functions(lines), "in the header, and with guarded lists");
 }
+
+/// A number as C or Rust writes it.
+fn number(text: &str) -> u32 {
+    let digits = text.trim_start_matches("UINT32_C(0x").trim_start_matches("0x").trim_end_matches([')', ';']);
+    u32::from_str_radix(&digits.replace('_', ""), 16).unwrap_or_else(|_| panic!("no number: {text}"))
+}
+
+#[test]
+fn the_crates_constants_are_the_headers() {
+    let defined = |name: &str| HEADER.lines().find_map(|line| line.strip_prefix(&format!("#define {name} "))).map(number);
+    let constants: Vec<&str> = CRATE.lines().filter_map(|line| line.strip_prefix("pub const ")).collect();
+    assert_eq!(constants.len(), 4);
+    for constant in constants {
+        let (name, value) = constant.split_once(": u32 = ").expect("a constant of 32 bits");
+        assert_eq!(defined(name), Some(number(value)), "{name}");
+    }
+}
