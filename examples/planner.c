@@ -29,7 +29,7 @@ static const char letters[] = "ABCDEFGHJKLMNOPQ";
 
 /* ---- reading arguments */
 
-static size_t number(const char *text)
+static size_t parse_number(const char *text)
 {
     char *end;
     unsigned long value = strtoul(text, &end, 10);
@@ -46,7 +46,7 @@ struct list {
     size_t count;
 };
 
-static struct list list(const char *text)
+static struct list parse_list(const char *text)
 {
     struct list list = {{0}, 0};
     while (*text != '\0' && list.count <= PLAN_RUNS) {
@@ -68,9 +68,9 @@ struct columns {
     size_t count;
 };
 
-static struct columns columns(const char *text)
+static struct columns parse_columns(const char *text)
 {
-    struct list numbers = list(text);
+    struct list numbers = parse_list(text);
     struct columns columns = {{0}, numbers.count};
     for (size_t i = 0; i < numbers.count; i++) {
         columns.bytes[i] = (uint8_t)(numbers.numbers[i] > UINT8_MAX ? UINT8_MAX : numbers.numbers[i]);
@@ -147,7 +147,7 @@ static int print_compared(uint32_t answer, const uint8_t *witness, size_t n)
 
 static int compare(size_t n, size_t g, const char *one, const char *other)
 {
-    struct columns first = columns(one), second = columns(other);
+    struct columns first = parse_columns(one), second = parse_columns(other);
     uint8_t witness[PLAN_FACTORS];
     uint32_t answer = plan_compare_columns(n, g, first.bytes, first.count, second.bytes, second.count, witness, PLAN_FACTORS);
     return print_compared(answer, witness, n);
@@ -155,7 +155,7 @@ static int compare(size_t n, size_t g, const char *one, const char *other)
 
 static int compare_tables(size_t n, size_t g, const char *one, const char *other)
 {
-    struct list first = list(one), second = list(other);
+    struct list first = parse_list(one), second = parse_list(other);
     uint8_t witness[PLAN_FACTORS];
     uint32_t answer = plan_compare_runs(n, g, first.numbers, first.count, second.numbers, second.count, witness, PLAN_FACTORS);
     return print_compared(answer, witness, n);
@@ -237,7 +237,7 @@ static size_t place_of(const uint8_t *columns, size_t n, size_t count)
 
 static int print_smallest(size_t n, size_t g, size_t r, const char *text)
 {
-    struct columns given = columns(text);
+    struct columns given = parse_columns(text);
     uint8_t smallest[PLAN_FACTORS], witness[PLAN_FACTORS];
     unsigned answer = plan_smallest_of_columns(n, g, given.bytes, given.count, smallest, PLAN_FACTORS, witness, PLAN_FACTORS);
     if (answer != PLAN_ACCEPTED) {
@@ -266,19 +266,19 @@ static int is(const char *name, int count, int argc, char **argv)
 int main(int argc, char **argv)
 {
     if (is("compare", 4, argc, argv)) {
-        return compare(number(argv[2]), number(argv[3]), argv[4], argv[5]);
+        return compare(parse_number(argv[2]), parse_number(argv[3]), argv[4], argv[5]);
     }
     if (is("tables", 4, argc, argv)) {
-        return compare_tables(number(argv[2]), number(argv[3]), argv[4], argv[5]);
+        return compare_tables(parse_number(argv[2]), parse_number(argv[3]), argv[4], argv[5]);
     }
     if (is("smallest", 4, argc, argv)) {
-        return print_smallest(number(argv[2]), number(argv[3]), number(argv[4]), argv[5]);
+        return print_smallest(parse_number(argv[2]), parse_number(argv[3]), parse_number(argv[4]), argv[5]);
     }
     if (is("catalogue", 3, argc, argv)) {
-        return list_catalogue(number(argv[2]), number(argv[3]), number(argv[4]));
+        return list_catalogue(parse_number(argv[2]), parse_number(argv[3]), parse_number(argv[4]));
     }
     if (is("runs", 4, argc, argv)) {
-        return print_runs(number(argv[2]), number(argv[3]), number(argv[4]), number(argv[5]));
+        return print_runs(parse_number(argv[2]), parse_number(argv[3]), parse_number(argv[4]), parse_number(argv[5]));
     }
     fputs(usage, stderr);
     return REFUSED;
