@@ -82,7 +82,7 @@ impl Trial {
         short_sample(random, &plan).unwrap_or(plan)
     }
 
-    /// The plan in a form, as it is or damaged once or twice, or with another count of numbers.
+    /// The plan in a form, as it is or damaged once or twice, or with another count of numbers, also one that has the right last digits.
     fn list(&mut self, plan: &Sample, form: Form) -> Given {
         let random = &mut self.random;
         let good = given(random, plan, form);
@@ -93,8 +93,9 @@ impl Trial {
                 damaged(random, &once)
             }
             2 if !good.list.is_empty() => {
-                let lengths = around(good.list.len());
-                let count = lengths[random.below(lengths.len())];
+                let right = good.list.len();
+                let counts = [around(right), vec![right + (1 << 8), right + (1 << 16)]].concat();
+                let count = counts[random.below(counts.len())];
                 Given { list: good.list.iter().copied().cycle().take(count).collect(), ..good }
             }
             _ => good,
