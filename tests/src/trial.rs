@@ -82,11 +82,12 @@ impl Trial {
         short_sample(random, &plan).unwrap_or(plan)
     }
 
-    /// The plan in a form, as it is or damaged once or twice, or with another count of numbers, also one that has the right last digits.
+    /// The plan in a form, as it is or damaged once or twice, with one bit cleared in every number, or with another count of numbers, also one
+    /// that has the right last digits.
     fn list(&mut self, plan: &Sample, form: Form) -> Given {
         let random = &mut self.random;
         let good = given(random, plan, form);
-        match random.below(6) {
+        match random.below(8) {
             0 => damaged(random, &good),
             1 => {
                 let once = damaged(random, &good);
@@ -97,6 +98,10 @@ impl Trial {
                 let counts = [around(right), vec![right + (1 << 8), right + (1 << 16)]].concat();
                 let count = counts[random.below(counts.len())];
                 Given { list: good.list.iter().copied().cycle().take(count).collect(), ..good }
+            }
+            3 => {
+                let kept = !(1 << random.below(plan.m));
+                Given { list: good.list.iter().map(|number| number & kept).collect(), ..good }
             }
             _ => good,
         }
