@@ -19,13 +19,23 @@ fn of_the_header() -> BTreeSet<String> {
     functions(HEADER.lines().filter(|line| line.starts_with("uint") || line.starts_with("struct")))
 }
 
+/// The names that nm lists of the library under this option.
+fn symbols(option: &str) -> BTreeSet<String> {
+    let listed = Command::new("nm").args([option, "--extern-only", "--format=posix", LIBRARY]).output().expect("nm runs");
+    let text = String::from_utf8(listed.stdout).expect("nm writes text");
+    text.lines().filter_map(|line| line.split_once(' ')).map(|(name, _)| name.to_string()).collect()
+}
+
 #[test]
 fn the_header_declares_exactly_the_functions_that_the_library_exports() {
-    let listed = Command::new("nm").args(["--defined-only", "--extern-only", "--format=posix", LIBRARY]).output().expect("nm runs");
-    let text = String::from_utf8(listed.stdout).expect("nm writes text");
-    let exported: BTreeSet<String> = text.lines().filter_map(|line| line.split_once(" T ")).map(|(name, _)| name.to_string()).collect();
+    let exported = symbols("--defined-only");
     assert!(exported.len() > 20, "{exported:?}");
     assert_eq!(of_the_header(), exported, "in the header, and in the library");
+}
+
+#[test]
+fn the_library_needs_nothing_but_memcpy_and_memset() {
+    assert_eq!(symbols("--undefined-only"), ["memcpy", "memset"].map(String::from).into());
 }
 
 #[test]
