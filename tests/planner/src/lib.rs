@@ -1,7 +1,17 @@
-//! The exported functions of the Rattle crate `planner`, and a safe call of each.
+//! The plan library for a Rust program: a safe function for each exported one of the Rattle crate `planner`, under its name.
+//! `include/planner.h` is the manual.
 //!
 //! A list goes as a pointer and then its count of elements. Each call on one plan answers the number of document 01's refusal, 0 if it
 //! accepts; a refused call leaves the lent list untouched, and an accepted one leaves the places past its result untouched.
+
+/// A comparison's answer for plans that are the same, to which the witness's mask is added.
+pub const PLAN_SAME: u32 = 0x1_0000;
+/// .. for plans that are different, to which the first length where the patterns differ is added, 0 if they agree.
+pub const PLAN_DIFFERENT: u32 = 0x2_0000;
+/// What the check of a witness says of a true one.
+pub const PLAN_YES: u32 = 0x1_0000;
+/// .. and of any other.
+pub const PLAN_NO: u32 = 0x2_0000;
 
 mod exported {
     #[link(name = "planner", kind = "static")]
@@ -242,22 +252,22 @@ pub fn plan_less_aberration(n: usize, g: usize, first: &[u16], second: &[u16]) -
     unsafe { exported::plan_less_aberration(n, g, first.as_ptr(), first.len(), second.as_ptr(), second.len()) }
 }
 
-/// Compares two plans given by columns: 0x10000 if they are the same, and the witness's names in the first N places; 0x20000 and the first
-/// length where the patterns differ, 0 if they agree, if they are different; the refusal's number if refused.
+/// Compares two plans given by columns: `PLAN_SAME`, and the witness's names in the first N places; `PLAN_DIFFERENT` and a length; or the
+/// refusal's number.
 pub fn plan_compare_columns(n: usize, g: usize, first: &[u8], second: &[u8], witness: &mut [u8]) -> u32 {
     let (count, places) = (first.len(), witness.len());
     // SAFETY: the lists are valid for the counts given with them, and the call keeps none.
     unsafe { exported::plan_compare_columns(n, g, first.as_ptr(), count, second.as_ptr(), second.len(), witness.as_mut_ptr(), places) }
 }
 
-/// Compares two plans given by run tables. As `plan_compare_columns`, but with the witness's mask added to 0x10000.
+/// Compares two plans given by run tables. As `plan_compare_columns`, but with the witness's mask added to `PLAN_SAME`.
 pub fn plan_compare_runs(n: usize, g: usize, first: &[u16], second: &[u16], witness: &mut [u8]) -> u32 {
     let (count, places) = (first.len(), witness.len());
     // SAFETY: the lists are valid for the counts given with them, and the call keeps none.
     unsafe { exported::plan_compare_runs(n, g, first.as_ptr(), count, second.as_ptr(), second.len(), witness.as_mut_ptr(), places) }
 }
 
-/// Checks a claimed witness between two run tables: 0x10000 for yes, 0x20000 for no, the refusal's number if a table is refused.
+/// Checks a claimed witness between two run tables: `PLAN_YES`, `PLAN_NO`, or the refusal's number if a table is refused.
 pub fn plan_check_witness(n: usize, g: usize, first: &[u16], second: &[u16], names: &[u8], mask: u16) -> u32 {
     let (count, places) = (first.len(), names.len());
     // SAFETY: the lists are valid for the counts given with them, and the call keeps none.
@@ -274,25 +284,14 @@ pub fn plan_smallest_of_columns(n: usize, g: usize, columns: &[u8], smallest: &m
 
 /// The catalogue's answer: a refusal's number, 0 if accepted, and how many entries the list holds.
 #[repr(C)]
+#[derive(Clone, Copy, Debug, PartialEq, Eq)]
 pub struct Entries {
     pub number: u8,
     pub count: usize,
 }
 
-/// The catalogue, its entries one after another, N columns each: 0x10000 and the entry count if the list has room for all, else the
-/// refusal's number, which is 9 where the list holds the first entries only.
-pub fn plan_catalogue(n: usize, g: usize, r: usize, columns: &mut [u8]) -> u32 {
+/// The catalogue, its entries one after another, N columns each, as many as the list has room for. Refused by 9 where it has more.
+pub fn plan_catalogue(n: usize, g: usize, r: usize, columns: &mut [u8]) -> Entries {
     // SAFETY: the list is valid for the count given with it, and the call does not keep it.
-    let found = unsafe { exported::plan_catalogue(n, g, r, columns.as_mut_ptr(), columns.len()) };
-    match found.number {
-        0 => 0x10000 + u32::try_from(found.count).expect("fewer than 2^32 entries"),
-        9 => {
-            assert_eq!(found.count, columns.len() / n, "refused by 9, the list is full");
-            9
-        }
-        number => {
-            assert_eq!(found.count, 0, "refused by {number}, no entries");
-            u32::from(number)
-        }
-    }
+    unsafe { exported::plan_catalogue(n, g, r, columns.as_mut_ptr(), columns.len()) }
 }
