@@ -1,0 +1,4 @@
+pub mod Lending
+pub mod Moving
+pub mod Settling
+pub mod Formed
