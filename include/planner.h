@@ -16,8 +16,8 @@
  * Lists. A list is a pointer and then its count of elements (not of bytes). A list of 0 elements may have any pointer, NULL apart. No
  * call keeps a pointer, changes a list that it reads, or allocates.
  *
- * Answers. Every call but plan_less_aberration, those on two plans and plan_catalogue at the end answers 0 if it accepts, else the lowest number that
- * applies, over all its arguments:
+ * Answers. Every call but plan_less_aberration, those on two plans and those that answer a struct answers 0 if it accepts, else the lowest
+ * number that applies, over all its arguments:
  *   1  N is outside 1 to 16
  *   2  G is at least N, or N - G is above 7
  *   4  a list has not G words, N columns or 2^M runs
@@ -109,16 +109,43 @@ uint32_t plan_compare_runs(size_t n, size_t g, const uint16_t *first, size_t fir
 uint32_t plan_check_witness(size_t n, size_t g, const uint16_t *first, size_t first_count, const uint16_t *second, size_t second_count,
                             const uint8_t *names, size_t name_count, uint16_t mask);
 
-/* The smallest form of the plan of the columns: among all lists of N rising columns of rank M whose plan is the same as this one, the list
- * that has the smaller column where it first differs from any other. Two plans of one N and G are the same exactly if their smallest forms
- * are equal.
+/* The smallest form of a plan: among all lists of N rising columns of rank M whose plan is the same as this one, the list that has the smaller
+ * column where it first differs from any other. Two plans of one N and G are the same exactly if their smallest forms are equal. The plan goes
+ * as its columns or as a run table.
+ *   list      plans that it is looked for in, such as a catalogue: their columns one plan after another, N bytes each; may be empty
  *   smallest  lent, N places: the columns of the smallest form, rising
- *   witness   lent, N places: factor f of the given plan becomes factor witness[f] of the smallest form, each of 0 to N - 1 being used once;
- *             this renaming turns the given columns' set of runs into that of the smallest form, and no levels are switched
- * Answers 0, or 1, 2, 4 to 8 as above; 8 if either lent list has fewer than N places. An accepted call leaves the places past the first N of
- * either list untouched, a refused one both lists. The three lists must not overlap. */
-uint8_t plan_smallest_of_columns(size_t n, size_t g, const uint8_t *columns, size_t column_count, uint8_t *smallest, size_t smallest_places,
-                                 uint8_t *witness, size_t witness_places);
+ *   witness   lent, N places: factor f of the given plan becomes factor witness[f] of the smallest form, each of 0 to N - 1 being used once
+ * The answer is a refusal's number, 0 if accepted; the first place of the smallest form in the list, from 1, 0 if it is absent or the call
+ * refused; and for a run table the mask of factors of the smallest form whose levels are switched after renaming, 0 if refused. Renaming and
+ * then switching turn the given plan's set of runs into that of the smallest form; for columns no levels are switched. Refused by 1, 2, 4 to 8
+ * as above, also for the list: 4 if its count is no multiple of N, 5 to 7 for a fault of some plan in it; 8 if either lent list has fewer than
+ * N places. An accepted call leaves the places past the first N of either list untouched, a refused one both lists. The lent lists must
+ * overlap no other list. */
+struct plan_place {
+    uint8_t number;
+    size_t place;
+};
+
+struct plan_mask {
+    uint8_t number;
+    uint16_t mask;
+    size_t place;
+};
+
+struct plan_place plan_smallest_of_columns(size_t n, size_t g, const uint8_t *columns, size_t column_count, const uint8_t *list,
+                                           size_t list_count, uint8_t *smallest, size_t smallest_places, uint8_t *witness,
+                                           size_t witness_places);
+struct plan_mask plan_smallest_of_runs(size_t n, size_t g, const uint16_t *runs, size_t run_count, const uint8_t *list, size_t list_count,
+                                       uint8_t *smallest, size_t smallest_places, uint8_t *witness, size_t witness_places);
+
+/* The smallest forms of several plans in one call: their columns one plan after another, N bytes each, plan_count bytes in all.
+ *   forms      lent, plan_count places: the smallest form of each plan, at the places of the plan
+ *   witnesses  lent, plan_count places: the names of the witness from each plan to its smallest form, as above, at the places of the plan
+ * Answers 0, or 1, 2, 4 to 8 as above, for the plan with the lowest number; 4 if plan_count is no multiple of N, 8 if either lent list has fewer
+ * than plan_count places. An accepted call leaves the places past these untouched, a refused one both lists. The three lists must not
+ * overlap. */
+uint8_t plan_smallest_of_plans(size_t n, size_t g, const uint8_t *plans, size_t plan_count, uint8_t *forms, size_t form_places,
+                               uint8_t *witnesses, size_t witness_places);
 
 /* The catalogue for N, G and R: every smallest form of N factors and G generators whose words all have at least R letters (a full factorial
  * has none), in dictionary order: the earlier of two entries has the smaller column where they first differ. So each plan of this size
