@@ -1,0 +1,5 @@
+pub mod Book
+pub mod Over
+pub mod Writing
+pub mod WritingLaws
+pub mod PlanLaws
