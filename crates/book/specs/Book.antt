@@ -26,11 +26,11 @@ header n g r count = 1 ∷ n ∷ g ∷ r ∷ lowFirst count
 
 -- kind 0x20 + N: the N columns
 abbrev pub columnsRecord : ℕ → List ℕ → List ℕ
-columnsRecord n c = 32 + n ∷ each (λ f. getD c f 0 ∷ []) n
+columnsRecord n c = (32 + n) ∷ each (λ f. getD c f 0 ∷ []) n
 
 -- kind 0x40 + N: the counts for lengths 3 to N, none for N below 3
 abbrev pub patternRecord : ℕ → List ℕ → List ℕ
-patternRecord n p = 64 + n ∷ each (λ i. lowFirst (ofLength p (3 + i))) (n - 2)
+patternRecord n p = (64 + n) ∷ each (λ i. lowFirst (ofLength p (3 + i))) (n - 2)
 
 -- how long the records are, and the book of so many entries
 abbrev pub headerLength : ℕ

@@ -2,4 +2,5 @@ pub mod Book
 pub mod Over
 pub mod Writing
 pub mod WritingLaws
+pub mod PutLaws
 pub mod PlanLaws

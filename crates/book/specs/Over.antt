@@ -6,7 +6,7 @@ use Prim.Native.Nat.{ℕ, zero, suc, _+_, _≤_, _<_}
 use native.Mathlib.Nat.{suc-add, zero-add}
 use native.Mathlib.Omega.{arith}
 use lib.ListN.{length, take, drop, set, length-append, length-drop}
-use lib.Seq.{drop-at, take-at}
+use lib.Seq.{drop-at, drop-nil, take-at}
 
 unfoldable pub over : ℕ → List ℕ → List ℕ → List ℕ
 over zero zs v = zs ++ drop (length zs) v
@@ -31,7 +31,9 @@ over-one (suc at) y (x ∷ v) h = ap (λ (l : List ℕ). x ∷ l) (over-one at y
 after-start : (zs ys v : List ℕ) → over (length zs) ys (zs ++ drop (length zs) v) ≡ (zs ++ ys) ++ drop (length (zs ++ ys)) v
 unfolding over
 after-start [] ys v = refl
-after-start (z ∷ zs) ys [] = ap (λ (l : List ℕ). z ∷ l) (after-start zs ys [])
+after-start (z ∷ zs) ys [] =
+    ap (λ (l : List ℕ). z ∷ l)
+    (ap (λ (l : List ℕ). over (length zs) ys (zs ++ l)) (sym (drop-nil (length zs))) ∙ after-start zs ys [] ∙ ap (λ (l : List ℕ). (zs ++ ys) ++ l) (drop-nil (length (zs ++ ys))))
 after-start (z ∷ zs) ys (x ∷ v) = ap (λ (l : List ℕ). z ∷ l) (after-start zs ys v)
 
 pub over-then : (at : ℕ) (zs ys v : List ℕ) → over (at + length zs) ys (over at zs v) ≡ over at (zs ++ ys) v

@@ -13,12 +13,12 @@ use Rattle.regular.specs.Columns.{planOf}
 use Rattle.regular.specs.Pattern.{Pattern}
 use Rattle.regular.specs.Refusals.{Lowest, designFaults, columnsFaults}
 use Rattle.regular.specs.RefusalLaws.{lowest-unique}
-use Rattle.regular.specs.PlanLists.{planAt, HasPlan}
+use Rattle.regular.specs.PlanLists.{planAt, HasPlan, wantedPlansFaults}
 use Rattle.words.specs.Switches.{agree-sym, pattern-agree}
 use Rattle.admission.specs.Admission.{Admission}
 use Rattle.measures.specs.Ready.{Ready}
 use Rattle.measures.specs.Measured.{ready}
-use Rattle.plan_lists.specs.Accepted.{AcceptedPlans}
+use Rattle.plan_lists.specs.Accepted.{AcceptedPlans, plans-accepted}
 use Rattle.book.specs.Book.{bookLength, headerLength}
 use Rattle.book.specs.Writing.{entryLength, PutEntry, Written, PlansWritten}
 use Rattle.book.specs.WritingLaws.{columns-same, written-none, written-more, written-size, entry-room}
@@ -39,6 +39,12 @@ admitted-pattern {fault} {n} {g} {number} {s} {a} l ad p = pattern-agree n (plan
 pub entry-of : {fault : ℕ → Type 0} {n g number : ℕ} {s : Runs} {a : List ℕ} → Lowest fault 0 → Admission fault n g s number a
     → {c v w : List ℕ} {at to : ℕ} → PutEntry n (planOf n (n - g) a) c at v w to → PutEntry n s c at v w to
 entry-of l ad p = record { counts = p .counts; pattern = admitted-pattern l ad (p .counts) (p .pattern); bytes = p .bytes; next = p .next }
+
+-- the sizes of a list that is accepted
+pub plans-bounds : (n g r number : ℕ) (plans : List ℕ) → Lowest (wantedPlansFaults n g r plans) number → number ≡ 0 → (n ≤ 16) × (g ≤ 16) × (r ≤ 16)
+plans-bounds n g r number plans l e =
+    let b = plans-accepted n g r plans (subst (Lowest (wantedPlansFaults n g r plans)) e l) .bounds in
+    (b .size .most, omega (arith, b .size .less, b .size .most), b .high)
 
 -- plans as bytes, the book of which has room in v
 module _ (n g r : ℕ) (plans : List ℕ) (ok : AcceptedPlans n g r plans) (v : List ℕ) (room : bookLength n (length plans / n) ≤ length v) where
@@ -80,6 +86,16 @@ module _ (n g r : ℕ) (plans : List ℕ) (ok : AcceptedPlans n g r plans) (v : 
         let i = x .count in
         let l = few i inside in
         omega (arith, x .written .place, entry-room n i (length plans / n) l, room, written-size (x .written) (omega (arith, entry-room n i (length plans / n) l, room)))
+
+  -- the length stays
+  pub plans-size : {base at : ℕ} {w : List ℕ} → PlansWritten n g plans base v w at → base ≤ length plans → length w ≡ length v
+  plans-size {base} {at} {w} x h = written-size (x .written) (omega (arith, room, mul-le-mul-right {m = x .count} {n = length plans / n} (entryLength n) most))
+    where
+      most : x .count ≤ length plans / n
+      most =
+          by-cases (decLt (length plans / n) (x .count))
+          (λ l. absurd (omega (arith, x .place, ok .multiple, ok .bounds .size .some, suc-mul (length plans / n) n, mul-le-mul-right {m = suc (length plans / n)} {n = x .count} n l)))
+          (λ l. omega arith)
 
   -- all of them
   pub plans-all : {base at : ℕ} {w : List ℕ} → PlansWritten n g plans base v w at → base ≡ length plans → Written n g (planAt n plans) (length plans / n) v w at

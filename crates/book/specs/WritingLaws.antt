@@ -55,11 +55,11 @@ entry-bytes n c p =
 
 -- the same columns, the same record
 pub columns-same : (n : ℕ) (c d : List ℕ) → ((f : ℕ) → f < n → getD c f 0 ≡ getD d f 0) → columnsRecord n c ≡ columnsRecord n d
-columns-same n c d h = ap (λ (l : List ℕ). 32 + n ∷ l) (each-same (λ f. getD c f 0 ∷ []) (λ f. getD d f 0 ∷ []) n (λ f l. ap (λ (x : ℕ). x ∷ []) (h f l)))
+columns-same n c d h = ap (λ (l : List ℕ). (32 + n) ∷ l) (each-same (λ f. getD c f 0 ∷ []) (λ f. getD d f 0 ∷ []) n (λ f l. ap (λ (x : ℕ). x ∷ []) (h f l)))
 
 pattern-same : (n : ℕ) (s : Runs) (p q : List ℕ) → Pattern n s p → Pattern n s q → patternRecord n p ≡ patternRecord n q
 pattern-same n s p q a b =
-    ap (λ (l : List ℕ). 64 + n ∷ l)
+    ap (λ (l : List ℕ). (64 + n) ∷ l)
     (each-same (λ i. lowFirst (ofLength p (3 + i))) (λ i. lowFirst (ofLength q (3 + i))) (n - 2) (λ i l. ap lowFirst (pattern-unique n s p q a b (3 + i) (omega arith) (omega arith))))
 
 pub book-unique : (n g r count : ℕ) (columns : ℕ → List ℕ) (a b : List ℕ) → Book n g r count columns a → Book n g r count columns b → a ≡ b
@@ -202,6 +202,12 @@ refusal-none n count number places k e f =
       few = count-few count (f .many) (z .1) (f .counted);
       room = by-cases (decLt places (bookLength n count)) (λ h. absurd (omega (arith, f .short low h))) (λ h. omega arith);
     }
+
+-- after the header the room is as before
+pub begun-room : {n g r count number k used : ℕ} {v w : List ℕ} → Begins n g r count number v w k used → k ≡ 0 → bookLength n count ≤ length w
+begun-room {n} {g} {r} {count} {number} {k} {used} {v} {w} b e =
+    let z = refusal-none n count number (length v) k e (b .refusal) in
+    omega (arith, z .room, ap length (b .begun e .1), over-length 0 (header n g r count) v (omega (arith, z .room)))
 
 -- a refused call
 pub writes-refused : {plans : ℕ → Type 0} {n g r count number k used : ℕ} {columns : ℕ → List ℕ} {v w : List ℕ} → ((j : ℕ) → plans j → j ≤ 7) → Lowest plans number

@@ -1,13 +1,13 @@
 // The book of a list of plans, into lent bytes: all is judged first, then the header and entry after entry are written.
 ghost use mathlib.Core.Path.{_≡_};
 ghost use Prim.Native.Nat.{ℕ, _+_, _*_, _-_, _/_, _≤_, _<_};
-ghost use mathlib.Core.List.{_++_};
+ghost use mathlib.Core.List.{[], _∷_, _++_};
 ghost use lib.ListN.{length, getD};
 ghost use Rattle.regular.specs.Columns.{planOf};
 ghost use Rattle.regular.specs.Pattern.{ofLength};
-ghost use Rattle.regular.specs.Refusals.{Lowest, designFaults, columnsFaults};
-ghost use Rattle.regular.specs.PlanLists.{wantedPlansFaults};
+ghost use Rattle.regular.specs.Refusals.{Lowest, designFaults};
 ghost use Rattle.measures.specs.Ready.{Ready};
+ghost use Rattle.plan_lists.specs.Accepted.{AcceptedPlans};
 ghost use Rattle.book.specs.Book.{lowFirst, each, columnsRecord, patternRecord, header, bookLength, CountFault, WritesPlans, WritesDesigns};
 ghost use Rattle.book.specs.Over.{over};
 ghost use Rattle.book.specs.Writing.{entryLength, PutEntry, Refusal, Begins, Adds, PlansWritten};
@@ -153,7 +153,7 @@ fn begin(n: usize, g: usize, r: usize, count: usize, number: u8, out: &mut [u8])
 
 // The entries of all plans, after the header; and the place after them.
 fn put_plans(n: usize, g: usize, plans: &[u8], out: &mut [u8]) -> usize
-    requires { ⌜ (r : ℕ) × (Lowest (wantedPlansFaults n g r (now plans)) 0 × (bookLength n (length (now plans) / n) ≤ length (now out))) ⌝ }
+    requires { ⌜ ((r : ℕ) × AcceptedPlans n g r (now plans)) × (bookLength n (length (now plans) / n) ≤ length (now out)) ⌝ }
     ensures { λ res. ⌜ PlansWritten n g (now (plans .entry)) (length (now (plans .entry))) (now (out .entry)) (now (out .exit)) res ⌝ }
 {
     let mut base: usize = 0;
