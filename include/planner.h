@@ -1,5 +1,5 @@
 /* Regular two-level plans (regular two-level fractional factorial designs) in their three forms, words, columns and run tables, the
- * comparison of two plans, smallest forms and catalogues.
+ * comparison of two plans, smallest forms, catalogues and books.
  *
  * Link with target/staticlib/libplanner.a, which `rt staticlib planner` writes.
  *
@@ -16,7 +16,7 @@
  * Lists. A list is a pointer and then its count of elements (not of bytes). A list of 0 elements may have any pointer, NULL apart. No
  * call keeps a pointer, changes a list that it reads, or allocates.
  *
- * Answers. Every call but plan_less_aberration, those on two plans and plan_catalogue at the end answers 0 if it accepts, else the lowest number that
+ * Answers. Every call but plan_less_aberration, those on two plans, plan_catalogue and plan_write_book at the end answers 0 if it accepts, else the lowest number that
  * applies, over all its arguments:
  *   1  N is outside 1 to 16
  *   2  G is at least N, or N - G is above 7
@@ -25,7 +25,7 @@
  *   6  words that are dependent (a word 0 among them), columns of rank below M, runs that are repeated or not regular
  *   7  a word of the plan, products of generators included, of fewer than three letters (a column 0 or repeated gives one)
  *   8  a lent list has fewer places than its result
- * plan_catalogue has two more, named there: 3 and 9.
+ * plan_catalogue has two more, named there: 3 and 9; plan_write_book has 3.
  *
  * Lent lists. The last list of a call is lent for its result. An accepted call fills the places named at it, from the first, and leaves any
  * places past them untouched. A refused call leaves the whole list untouched. It must not overlap a list that the call reads.
@@ -137,6 +137,28 @@ struct plan_entries {
 };
 
 struct plan_entries plan_catalogue(size_t n, size_t g, size_t r, uint8_t *columns, size_t places);
+
+/* The book of several plans, in the order given: their columns one plan after another, N bytes each. A book is records, each a byte of kind
+ * and a body whose length the kind fixes; numbers of 16 bits stand low byte first:
+ *   0x01      N, G, R, then the count of plans in 16 bits
+ *   0x20 + N  the N columns of a plan as they are given
+ *   0x40 + N  the number of its words of each length from 3 to N, 16 bits each; nothing for N below 3
+ * One 0x01 comes first, then for each plan its two records: 6 bytes, and N + 2 + 2 * (N - 2) a plan (N + 2 for N below 3). The answer is a
+ * refusal's number and a count of bytes:
+ *   number 0     accepted; the book is the list's first count places, and the places past them are untouched
+ *   number 1, 2  as above
+ *   number 3     R is outside 3 to 16
+ *   number 4     plan_count is no multiple of N, or there are more than 65,535 plans
+ *   number 5, 6  as above, for some plan
+ *   number 7     some plan has a word of fewer than R letters, or a column 0 or repeated
+ *   number 8     the lent list is shorter than the book
+ * under the lowest number that applies; a refused call leaves the list untouched and counts 0 bytes. The two lists must not overlap. */
+struct plan_bytes {
+    uint8_t number;
+    size_t count;
+};
+
+struct plan_bytes plan_write_book(size_t n, size_t g, size_t r, const uint8_t *plans, size_t plan_count, uint8_t *book, size_t places);
 
 #ifdef __cplusplus
 }

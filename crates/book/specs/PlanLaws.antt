@@ -1,6 +1,6 @@
 -- Laws of the entries: one plan of the bytes more, one record more, and the room that each has.
 use Prim.Native.Nat.{ℕ, suc, _+_, _*_, _-_, _/_, _≤_, _<_}
-use mathlib.Core.Path.{_≡_, refl, sym, ap, subst, _∙_}
+use mathlib.Core.Path.{_≡_, sym, ap, subst, _∙_}
 use mathlib.Core.Logic.{by-cases}
 use mathlib.Core.List.{List}
 use native.Mathlib.Decide.{decLt}
@@ -11,7 +11,7 @@ use lib.ListN.{length, getD, take, drop}
 use Rattle.regular.specs.Runs.{Runs}
 use Rattle.regular.specs.Columns.{planOf}
 use Rattle.regular.specs.Pattern.{Pattern}
-use Rattle.regular.specs.Refusals.{Lowest, designFaults, columnsFaults}
+use Rattle.regular.specs.Refusals.{Lowest, columnsFaults}
 use Rattle.regular.specs.RefusalLaws.{lowest-unique}
 use Rattle.regular.specs.PlanLists.{planAt, HasPlan, wantedPlansFaults}
 use Rattle.words.specs.Switches.{agree-sym, pattern-agree}
@@ -19,7 +19,7 @@ use Rattle.admission.specs.Admission.{Admission}
 use Rattle.measures.specs.Ready.{Ready}
 use Rattle.measures.specs.Measured.{ready}
 use Rattle.plan_lists.specs.Accepted.{AcceptedPlans, plans-accepted}
-use Rattle.book.specs.Book.{bookLength, headerLength}
+use Rattle.regular.specs.Book.{bookLength, headerLength}
 use Rattle.book.specs.Writing.{entryLength, PutEntry, Written, PlansWritten}
 use Rattle.book.specs.WritingLaws.{columns-same, written-none, written-more, written-size, entry-room}
 

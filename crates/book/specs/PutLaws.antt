@@ -1,14 +1,14 @@
 -- Laws of what each part of the writer puts: a number, the header, one column more, one count more, an entry; and the lengths that fit.
-use Prim.Native.Nat.{ℕ, suc, _+_, _*_, _-_, _/_, _%_, _≤_, _<_}
+use Prim.Native.Nat.{ℕ, _+_, _*_, _-_, _/_, _≤_, _<_}
 use mathlib.Core.Path.{_≡_, refl, sym, ap, _∙_}
 use mathlib.Core.List.{List, [], _∷_, _++_}
 use native.Mathlib.Nat.{div-zero, mul-le-mul-right}
 use native.Mathlib.Omega.{arith}
 use lib.ListN.{length, getD, set, length-set}
 use Rattle.regular.specs.Pattern.{ofLength}
-use Rattle.book.specs.Book.{lowFirst, each, header, columnsRecord, patternRecord, bookLength}
+use Rattle.regular.specs.Book.{lowFirst, each, header, columnsRecord, patternRecord, bookLength}
 use Rattle.book.specs.Over.{over, over-none, over-one, over-length}
-use Rattle.book.specs.Writing.{entryRecords, entryLength}
+use Rattle.book.specs.Writing.{entryLength}
 use Rattle.book.specs.WritingLaws.{each-more, each-none, columns-bytes, counts-bytes, put-more, put-then}
 
 -- two bytes
@@ -96,7 +96,7 @@ entry-put n at c p v w u h first second =
     let columns = each (columnAt c) n in
     let counts = each (countAt p) (n - 2) in
     let a : w ≡ over at (columnsRecord n c) v =
-        first ∙ ap (over (at + 1) columns) (sym (over-one at (32 + n) v (omega arith))) ∙ put-then at 1 ((32 + n) ∷ []) columns v refl in
+    first ∙ ap (over (at + 1) columns) (sym (over-one at (32 + n) v (omega arith))) ∙ put-then at 1 ((32 + n) ∷ []) columns v refl in
     let long : length (columnsRecord n c) ≡ 1 + n = omega (arith, columns-bytes c n) in
     let mid : at + 1 + n ≡ at + (1 + n) = omega arith in
     let end : at + 1 + n + 1 ≡ at + (1 + n) + 1 = omega arith in

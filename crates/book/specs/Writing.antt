@@ -10,7 +10,7 @@ use Rattle.regular.specs.Refusals.{Lowest}
 use Rattle.regular.specs.RefusalLaws.{Lower}
 use Rattle.regular.specs.PlanLists.{planAt}
 use Rattle.regular.specs.declared.Design.{Design}
-use Rattle.book.specs.Book.{each, columnsRecord, patternRecord, columnsLength, patternLength, header, headerLength, bookLength, CountFault}
+use Rattle.regular.specs.Book.{each, columnsRecord, patternRecord, columnsLength, patternLength, header, headerLength, bookLength, CountFault}
 use Rattle.book.specs.Over.{over}
 
 -- the two records of an entry

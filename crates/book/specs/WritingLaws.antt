@@ -1,12 +1,12 @@
 -- Laws of the writer: the lengths of records, one entry more, the refusal's number, and the book that stands at the end. The book of a list of plans
 -- is one list of bytes (`book-unique`).
-use Prim.Native.Nat.{ℕ, zero, suc, _+_, _*_, _-_, _/_, _≤_, _<_}
+use Prim.Native.Nat.{ℕ, zero, suc, _+_, _*_, _-_, _≤_, _<_}
 use mathlib.Core.Path.{_≡_, refl, sym, ap, ap₂, subst, _∙_}
-use mathlib.Core.Logic.{_⊎_, inl, inr, ⊎-elim, by-cases}
+use mathlib.Core.Logic.{_⊎_, ⊎-elim, by-cases}
 use mathlib.Core.Bool.{Bool, true, false}
 use mathlib.Core.List.{List, [], _∷_, _++_}
 use native.Mathlib.Decide.{ℕ-discrete, decLt}
-use native.Mathlib.Nat.{suc-mul, mul-le-mul-right, mul-le-mul-left}
+use native.Mathlib.Nat.{suc-mul, mul-le-mul-right}
 use native.Mathlib.Numerals.{add-one}
 use native.Mathlib.Omega.{arith}
 use borrow.Author.Tests.{eq-eqb, ne-eqb}
@@ -16,9 +16,9 @@ use Rattle.regular.specs.Runs.{Runs}
 use Rattle.regular.specs.Columns.{planOf}
 use Rattle.regular.specs.Pattern.{Pattern, ofLength}
 use Rattle.regular.specs.Refusals.{LentFault, either, Lowest}
-use Rattle.regular.specs.RefusalLaws.{lowest-none, lowest-at, lowest-first, lowest-then, lowest-lower, lowest-unique, lent-is, Lower, lower-none}
+use Rattle.regular.specs.RefusalLaws.{lowest-none, lowest-at, lowest-first, lowest-then, lowest-lower, lent-is, lower-none}
 use Rattle.counts.specs.Patterns.{pattern-unique}
-use Rattle.book.specs.Book.{lowFirst, each, header, headerLength, columnsRecord, patternRecord, bookLength, Book, CountFault, bookFaults, Writes}
+use Rattle.regular.specs.Book.{lowFirst, each, header, headerLength, columnsRecord, patternRecord, bookLength, Book, CountFault, bookFaults, Writes}
 use Rattle.book.specs.Over.{over, over-none, over-one, over-then, over-length, over-begins, over-rest}
 use Rattle.book.specs.Writing.{entryRecords, entryLength, PutEntry, Refusal, Begins, Written}
 

@@ -8,7 +8,7 @@ ghost use Rattle.regular.specs.Pattern.{ofLength};
 ghost use Rattle.regular.specs.Refusals.{Lowest, designFaults};
 ghost use Rattle.measures.specs.Ready.{Ready};
 ghost use Rattle.plan_lists.specs.Accepted.{AcceptedPlans};
-ghost use Rattle.book.specs.Book.{lowFirst, each, columnsRecord, patternRecord, header, bookLength, CountFault, WritesPlans, WritesDesigns};
+ghost use Rattle.regular.specs.Book.{lowFirst, each, columnsRecord, patternRecord, header, bookLength, CountFault, WritesPlans, WritesDesigns};
 ghost use Rattle.book.specs.Over.{over};
 ghost use Rattle.book.specs.Writing.{entryLength, PutEntry, Refusal, Begins, Adds, PlansWritten};
 use admission::lower_of;
@@ -78,7 +78,14 @@ fn put_entry(n: usize, columns: [u8; 16], counts: [u16; 16], at: usize, out: &mu
 }
 
 // The entry of a plan, by its columns and its standard columns, whose pattern is the plan's.
-fn put_plan(n: usize, g: usize, columns: [u8; 16], standard: [u8; 16], at: usize, out: &mut [u8]) -> usize
+fn put_plan(
+    n: usize,
+    g: usize,
+    columns: [u8; 16],
+    standard: [u8; 16],
+    at: usize,
+    out: &mut [u8],
+) -> usize
     requires { ⌜ Ready n g standard × (at + entryLength n ≤ length (now out)) ⌝ }
     ensures { λ res. ⌜ PutEntry n (planOf n (n - g) standard) columns at (now (out .entry)) (now (out .exit)) res ⌝ }
 {
@@ -199,8 +206,26 @@ fn add(n: usize, g: usize, design: Design, answer: BookAnswer, out: &mut [u8]) -
     let columns = design.columns;
     let standard = plan.columns;
     let count = put_plan(n, g, columns, standard, answer.count, out);
-    BookAnswer {
-        number: 0,
-        count,
+    BookAnswer { number: 0, count }
+}
+
+// The book of a list of design records.
+pub fn write_book_of_designs(
+    n: usize,
+    g: usize,
+    r: usize,
+    list: &[Design],
+    out: &mut [u8],
+) -> BookAnswer
+    ensures { λ res. ⌜ WritesDesigns n g r (now (list .entry)) (now (out .entry)) (now (out .exit)) (res .number) (res .count) ⌝ }
+{
+    let number = plan_lists::records_refusal(n, g, r, list);
+    let mut answer = begin(n, g, r, list.len(), number, out);
+    let mut i: usize = 0;
+    while i < list.len() {
+        let d = list[i];
+        answer = add(n, g, d, answer, out);
+        i += 1;
     }
+    answer
 }

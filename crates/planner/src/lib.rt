@@ -11,6 +11,8 @@ ghost use Rattle.regular.specs.Refusals.{wordsFaults, runsFaults, columnsFaults
 ghost use Rattle.regular.specs.Comparisons.{Compares, Checks, Witness, Told, comparedNumber, checkedNumber};
 ghost use Rattle.smallest_form.specs.Answers.{ReducesInto};
 ghost use Rattle.regular.specs.Catalogues.{ListsBytes};
+ghost use Rattle.regular.specs.Book.{WritesPlans};
+use regular::BookAnswer;
 use regular::CatalogueAnswer;
 use regular::Checked;
 use regular::Compared;
@@ -287,4 +289,18 @@ pub extern "C" fn plan_catalogue(
     ensures { λ a. ⌜ ListsBytes n g r (now (columns .entry)) (now (columns .exit)) (a .number) (a .count) ⌝ }
 {
     catalogue::list_catalogue(n, g, r, columns)
+}
+
+// The book of several plans.
+#[no_mangle]
+pub extern "C" fn plan_write_book(
+    n: usize,
+    g: usize,
+    r: usize,
+    plans: &[u8],
+    book: &mut [u8],
+) -> BookAnswer
+    ensures { λ a. ⌜ WritesPlans n g r (now (plans .entry)) (now (book .entry)) (now (book .exit)) (a .number) (a .count) ⌝ }
+{
+    book::write_book(n, g, r, plans, book)
 }

@@ -11,3 +11,4 @@ pub mod Same
 pub mod Smallest
 pub mod Catalogues
 pub mod Comparisons
+pub mod Book

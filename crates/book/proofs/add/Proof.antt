@@ -1,5 +1,5 @@
 -- `book::add` meets its contract: a refusal is passed on, else the record's entry is put after the others. Assumes nothing.
-use mathlib.Core.Path.{refl, _∙_}
+use mathlib.Core.Path.{refl}
 use native.Mathlib.Omega.{arith}
 use borrow.Author.Needs.{needs}
 use Rattle.book.specs.PlanLaws.{admitted-ready, entry-of}

@@ -1,9 +1,8 @@
 -- `book::begin` meets its contract: a refusal writes nothing, else the header stands. Assumes nothing.
 use mathlib.Core.Path.{refl, ap, subst, _∙_}
 use native.Mathlib.Omega.{arith}
-use borrow.Author.Needs.{needs}
 use lib.ListN.{length}
-use Rattle.book.specs.Book.{header}
+use Rattle.regular.specs.Book.{header}
 use Rattle.book.specs.Over.{over-length}
 use Rattle.book.specs.Writing.{Refusal}
 use Rattle.book.specs.WritingLaws.{refusal-none}

@@ -1,5 +1,4 @@
 -- `book::many` meets its contract: the count is tested. Assumes nothing.
-use native.Mathlib.Omega.{arith}
 use Rattle.book.specs.WritingLaws.{many-four, many-none}
 use Rattle.book.proofs.many.Statement.{statement}
 use Rattle.book.proofs.many.Tie as tie

@@ -5,7 +5,7 @@ use Prim.Native.Nat.{ℕ, _+_, _-_, _≤_}
 use native.Mathlib.Omega.{arith}
 use borrow.Author.Needs.{needs}
 use lib.ListN.{length, getD, length-set}
-use Rattle.book.specs.Book.{each}
+use Rattle.regular.specs.Book.{each}
 use Rattle.book.specs.Over.{over}
 use Rattle.book.specs.PutLaws.{columns-none, columns-more}
 use Rattle.book.proofs.put_columns.Statement.{statement}

@@ -4,7 +4,7 @@ use Prim.Native.Nat.{ℕ, _+_, _-_}
 use native.Mathlib.Omega.{arith}
 use borrow.Author.Needs.{needs}
 use Rattle.regular.specs.Pattern.{ofLength}
-use Rattle.book.specs.Book.{lowFirst, each}
+use Rattle.regular.specs.Book.{lowFirst, each}
 use Rattle.book.specs.Over.{over}
 use Rattle.book.specs.PutLaws.{CountsPut, counts-start, counts-turn}
 use Rattle.book.proofs.put_counts.Statement.{statement}

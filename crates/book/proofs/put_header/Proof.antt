@@ -3,7 +3,7 @@ use mathlib.Core.Path.{ap, _∙_}
 use native.Mathlib.Omega.{arith}
 use borrow.Author.Needs.{needs}
 use lib.ListN.{length, set, length-set}
-use Rattle.book.specs.Book.{header}
+use Rattle.regular.specs.Book.{header}
 use Rattle.book.specs.Over.{over-length}
 use Rattle.book.specs.PutLaws.{header-put, header-size}
 use Rattle.book.proofs.put_header.Statement.{statement}

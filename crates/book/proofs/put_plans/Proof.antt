@@ -1,6 +1,6 @@
 -- `book::put_plans` meets its contract: before each turn the entries of the plans in the first `base` bytes stand (`PlansWritten`); what is left of the
 -- bytes falls. Assumes nothing.
-use mathlib.Core.Path.{_≡_, ap, subst, _∙_}
+use mathlib.Core.Path.{_≡_, ap, subst}
 use Prim.Native.Nat.{ℕ, _+_, _-_, _≤_}
 use native.Mathlib.Omega.{arith}
 use borrow.Author.Needs.{needs}
