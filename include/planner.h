@@ -1,7 +1,7 @@
 /* planner.h: regular two-level plans (regular two-level fractional factorial designs).
  *
  * Plans in their three forms, words, columns and run tables; their pattern, resolution, distance counts and aberration; whether two plans
- * are the same; smallest forms; catalogues. For C and C++. Link with libplanner.a (pkg-config planner); it needs nothing but memcpy and
+ * are the same; smallest forms; catalogues; books. For C and C++. Link with libplanner.a (pkg-config planner); it needs nothing but memcpy and
  * memset. The functions have no state: they allocate nothing, keep no pointer, read and write nothing but the lists of the call, and may be
  * called from several threads at once. Every call ends and answers, whatever its numbers and lists hold.
  *
@@ -43,7 +43,7 @@
 #define PLAN_REFUSED_FACTORS 1
 /* G is at least N, or N - G is above 7. */
 #define PLAN_REFUSED_GENERATORS 2
-/* R is outside 3 to 16. Only calls that take R. */
+/* R is outside 3 to 16. Only plan_catalogue and plan_write_book. */
 #define PLAN_REFUSED_RESOLUTION 3
 /* A list has not G words, N columns (several plans: a multiple of N) or 2^M runs. */
 #define PLAN_REFUSED_COUNT 4
@@ -51,7 +51,8 @@
 #define PLAN_REFUSED_RANGE 5
 /* Words that are dependent (a word 0 among them), columns of rank below M, runs that are repeated or not regular. */
 #define PLAN_REFUSED_DEPENDENT 6
-/* A word of the plan, products of generators included, of fewer than three letters. A column 0 or repeated gives one. */
+/* A word of the plan, products of generators included, of fewer than three letters, or than R where it is taken with a plan. A column 0 or
+ * repeated gives one. */
 #define PLAN_REFUSED_SHORT_WORD 7
 /* A lent list has fewer places than its result. */
 #define PLAN_REFUSED_PLACES 8
@@ -187,6 +188,27 @@ struct plan_entries {
 };
 
 struct plan_entries plan_catalogue(size_t n, size_t g, size_t r, uint8_t *columns, size_t places);
+
+/* The book of several plans, in the order given: their columns one plan after another, N bytes each. A book is records, each a byte of kind
+ * and a body whose length the kind fixes; numbers of 16 bits stand low byte first:
+ *   0x01      N, G, R, then the count of plans in 16 bits
+ *   0x20 + N  the N columns of a plan as they are given
+ *   0x40 + N  the number of its words of each length from 3 to N, 16 bits each; nothing for N below 3
+ * One 0x01 comes first, then for each plan its two records: PLAN_BOOK_HEAD bytes, and PLAN_BOOK_ENTRY(N) a plan. The answer is a number and
+ * how many bytes of the lent list the book takes, 0 if refused:
+ *   PLAN_REFUSED_COUNT       plan_count is no multiple of N, or there are more than 65,535 plans
+ *   PLAN_REFUSED_SHORT_WORD  some plan has a word of fewer than R letters, or a column 0 or repeated
+ *   PLAN_REFUSED_PLACES      the lent list is shorter than the book
+ * and the other numbers up to PLAN_REFUSED_DEPENDENT as everywhere. */
+#define PLAN_BOOK_HEAD 6
+#define PLAN_BOOK_ENTRY(n) ((n) < 3 ? (n) + 2 : 3 * (n) - 2)
+
+struct plan_bytes {
+    uint8_t number;
+    size_t count;
+};
+
+struct plan_bytes plan_write_book(size_t n, size_t g, size_t r, const uint8_t *plans, size_t plan_count, uint8_t *book, size_t places);
 
 #ifdef __cplusplus
 }

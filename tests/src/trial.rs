@@ -1,7 +1,9 @@
 //! Calls of every exported function, on inputs good and damaged, as many as wanted, each held against the checking program.
 
+use crate::books::{self, joined};
 use crate::calls::Given;
 use crate::catalogues::{compare_catalogue, compare_refused, every_smallest_form, refusal, with_resolution, Entries};
+use crate::check::book::book;
 use crate::check::plan::Form;
 use crate::check::refusals::{accepted, lowest};
 use crate::check::renamings::is_witness;
@@ -54,6 +56,7 @@ impl Trial {
             self.comparisons(&plan);
             self.witnesses(&plan);
             self.smallest_forms(&plan);
+            self.books(&plan);
             self.catalogues();
             for ((name, slow), before) in self.slow.iter_mut().zip(before) {
                 if slowest(name) > before {
@@ -172,6 +175,17 @@ impl Trial {
         let both = [plans[0].list.clone(), plans[1].list.clone()].concat();
         for places in around(both.len()) {
             compare_plans(plans[0].n, plans[0].g, &both, (places, self.near(both.len())));
+        }
+    }
+
+    /// The book of the plan and of another of its size, for any R.
+    fn books(&mut self, plan: &Sample) {
+        let other = Sample { columns: columns(&mut self.random, plan.n, plan.m), ..*plan };
+        let (first, second) = (self.list(plan, Form::Columns), self.list(&other, Form::Columns));
+        let plans = joined(&[first.list, second.list]);
+        let r = self.random.between(2, 5);
+        for places in around(book(plan.n, plan.n - plan.m, r, &[plan.columns.clone(), other.columns]).len()) {
+            books::compare_any(first.n, first.g, r, &plans, places);
         }
     }
 

@@ -143,6 +143,15 @@ mod exported {
             mask: u16,
         ) -> u32;
         pub fn plan_catalogue(n: usize, g: usize, r: usize, columns: *mut u8, columns_count: usize) -> super::Entries;
+        pub fn plan_write_book(
+            n: usize,
+            g: usize,
+            r: usize,
+            plans: *const u8,
+            plans_count: usize,
+            book: *mut u8,
+            book_count: usize,
+        ) -> super::Bytes;
         pub fn plan_smallest_of_columns(
             n: usize,
             g: usize,
@@ -351,4 +360,19 @@ pub struct Entries {
 pub fn plan_catalogue(n: usize, g: usize, r: usize, columns: &mut [u8]) -> Entries {
     // SAFETY: the list is valid for the count given with it, and the call does not keep it.
     unsafe { exported::plan_catalogue(n, g, r, columns.as_mut_ptr(), columns.len()) }
+}
+
+/// The writer's answer: a refusal's number, 0 if accepted, and how many bytes the book has, none if refused.
+#[repr(C)]
+#[derive(Clone, Copy, Debug, PartialEq, Eq)]
+pub struct Bytes {
+    pub number: u8,
+    pub count: usize,
+}
+
+/// The book of several plans, their columns one plan after another.
+pub fn plan_write_book(n: usize, g: usize, r: usize, plans: &[u8], book: &mut [u8]) -> Bytes {
+    let (count, places) = (plans.len(), book.len());
+    // SAFETY: the lists are valid for the counts given with them, they do not overlap, and the call keeps none.
+    unsafe { exported::plan_write_book(n, g, r, plans.as_ptr(), count, book.as_mut_ptr(), places) }
 }
