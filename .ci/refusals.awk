@@ -4,10 +4,11 @@
 # that the proof rather than a fact fails. need: the need that fails; of several the one that says most. reason: what the prover said of it, cut short.
 
 function short(s) {
+    s = " " s
     gsub(/([^][ ().{},`]+\.)+/, "", s)                       # modules before a name
     gsub(/ \.(before|args|loop|given|now)/, "", s)         # the way to a name
     gsub(/c \./, "", s)
-    sub(/^\./, "", s)
+    sub(/^ \.?/, "", s)
     if (s ~ /^\([A-Za-z0-9_]+\)$/) s = substr(s, 2, length(s) - 2)
     gsub(/\|/, "\\|", s)
     return s
@@ -27,6 +28,12 @@ function side(s) {
     if (s !~ /Pre Post|Learnt|locals|bytes\]|\?[0-9]/) return "`" cut(s, 60) "`"
     if (match(s, /^[A-Z][A-Za-z]+/)) return "`" (substr(s, 1, RLENGTH) == "Post" ? "ensures" : substr(s, 1, RLENGTH)) " ..`"
     return "`..`"
+}
+
+# Two sides that should be one.
+function sides(wanted, found) {
+    if (side(wanted) == "`..`" && side(found) == "`..`") return "not what is promised .."
+    return side(wanted) " against " side(found)
 }
 
 # The first text between backquotes after a mark.
@@ -58,23 +65,23 @@ function reason(text,    part) {
     part = text
     if (index(part, "computed as far as they go")) sub(/.*computed as far as they go/, "", part)
     if (index(part, "the other has"))
-        return side(quoted_after(part, "where one has")) " against " side(quoted_after(part, "the other has"))
+        return sides(quoted_after(part, "where one has"), quoted_after(part, "the other has"))
     if (text ~ /no proof of `reads\.Post /) return "no proof of what the contract promises"
     if (index(text, "no proof of ")) return "no proof of " side(quoted_after(text, "no proof of "))
     if (index(text, "but this has type"))
-        return side(quoted_after(text, "expected type")) " against " side(quoted_after(text, "but this has type"))
+        return sides(quoted_after(text, "expected type"), quoted_after(text, "but this has type"))
     return cut(short(text), 90)
 }
 
 # Whether an error says that a fact does not hold.
 function of_a_fact(need, text) {
     if (need ~ /-spec$/) return 0
-    return text ~ /the goal does not follow|no proof of|the two types (first )?differ|but this has type|are absurd/
+    return text ~ /the goal does not follow|no proof of|the two (types|sides) (first )?differ|but this has type|are absurd/
 }
 
 # Of several needs that fail, the one that says most is kept: one said in full, then one of a return.
 function worth(need, said) {
-    return 2 * (said !~ /\.\.`|does not follow/) + (need ~ /^returns/)
+    return 2 * (said !~ /\.\.|does not follow/) + (need ~ /^returns/)
 }
 
 # Takes up the error that was read last: its first line and the lines after it.
@@ -125,7 +132,8 @@ function take_error(    place, need, text, name, names, k) {
         first[bare] = quoted_after($0, "does not close")
         why[bare] = reason(note)
     }
-    else if (bare in lost || !(bare in first)) account = "place"
+    else if (!(bare in first)) account = "callee"            # it calls in a cycle, and another of the cycle is not proved
+    else if (bare in lost) account = "place"
     print name "\t" account "\t" first[bare] "\t" why[bare]
     note = ""
 }
