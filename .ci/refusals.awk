@@ -7,7 +7,8 @@ function short(s) {
     s = " " s
     gsub(/([^][ ().{},`]+\.)+/, "", s)                       # modules before a name
     gsub(/ \.(before|args|loop|given|now)/, "", s)         # the way to a name
-    gsub(/c \./, "", s)
+    gsub(/ c \./, " ", s)
+    gsub(/\(c \./, "(", s)
     sub(/^ \.?/, "", s)
     if (s ~ /^\([A-Za-z0-9_]+\)$/) s = substr(s, 2, length(s) - 2)
     gsub(/\|/, "\\|", s)
