@@ -1,11 +1,13 @@
-/* Regular two-level plans (regular two-level fractional factorial designs) in their three forms, words, columns and run tables, the
- * comparison of two plans, smallest forms and catalogues.
+/* planner.h: regular two-level plans (regular two-level fractional factorial designs).
  *
- * Link with target/staticlib/libplanner.a, which `rt staticlib planner` writes.
+ * Plans in their three forms, words, columns and run tables; their pattern, resolution, distance counts and aberration; whether two plans
+ * are the same; smallest forms; catalogues. For C and C++. Link with libplanner.a (pkg-config planner); it needs nothing but memcpy and
+ * memset. The functions have no state: they allocate nothing, keep no pointer, read and write nothing but the lists of the call, and may be
+ * called from several threads at once. Every call ends and answers, whatever its numbers and lists hold.
  *
- * Sizes. N is the number of factors, 1 to 16; G the number of generators, below N; M = N - G the number of basic factors, at most 7.
+ * SIZES. N is the number of factors, 1 to 16; G the number of generators, below N; M = N - G the number of basic factors, at most 7.
  *
- * Forms. Factor A is bit 0 of a word and of a run. The letters are A to H, then J to Q.
+ * FORMS. Factor A is bit 0 of a word and of a run. The letters are A to H, then J to Q.
  *   words    G numbers of 16 bits: bit f says that factor f is in the word. They generate the plan in which every word meets every run in
  *            an even number of low levels.
  *   columns  N bytes, each from 1 to 2^M - 1: bit i says that basic factor i enters the factor. In run j a factor is low if j and its
@@ -13,28 +15,48 @@
  *   runs     2^M different numbers of 16 bits: bit f is 1 where factor f is low (-), 0 where it is high (+). The exclusive-or of any three
  *            runs is a run. Any order, and any factor's levels may be switched.
  *
- * Lists. A list is a pointer and then its count of elements (not of bytes). A list of 0 elements may have any pointer, NULL apart. No
- * call keeps a pointer, changes a list that it reads, or allocates.
+ * LISTS. A list goes as a pointer and then its count of elements (not of bytes), which the caller answers for. A list of 0 elements may have
+ * any pointer, NULL too. Lists that a call reads stay as they are, and may be one and the same.
  *
- * Answers. Every call but plan_less_aberration, those on two plans and plan_catalogue at the end answers 0 if it accepts, else the lowest number that
- * applies, over all its arguments:
- *   1  N is outside 1 to 16
- *   2  G is at least N, or N - G is above 7
- *   4  a list has not G words, N columns or 2^M runs
- *   5  a column above 2^M - 1, or a bit past factor N in a word or a run
- *   6  words that are dependent (a word 0 among them), columns of rank below M, runs that are repeated or not regular
- *   7  a word of the plan, products of generators included, of fewer than three letters (a column 0 or repeated gives one)
- *   8  a lent list has fewer places than its result
- * plan_catalogue has two more, named there: 3 and 9.
+ * LENT LISTS. A result is written to a list that the caller lends, with at least as many places as are named at the call. An accepted call
+ * fills these places, from the first, and leaves any places past them untouched. A refused call leaves every lent list untouched
+ * (PLAN_REFUSED_ROOM of a catalogue apart). A lent list must not overlap another list of the call.
  *
- * Lent lists. The last list of a call is lent for its result. An accepted call fills the places named at it, from the first, and leaves any
- * places past them untouched. A refused call leaves the whole list untouched. It must not overlap a list that the call reads.
- */
+ * ANSWERS. PLAN_ACCEPTED, or else the lowest number below that applies, over all arguments. The calls that answer more say so. */
 #ifndef PLANNER_H
 #define PLANNER_H
 
 #include <stddef.h>
 #include <stdint.h>
+
+#define PLANNER_VERSION "0.1.0"
+
+/* The most factors, basic factors and runs that a plan may have: enough places for any list that a call fills but a catalogue, and, with one
+ * more than PLAN_FACTORS, for distance counts. */
+#define PLAN_FACTORS 16
+#define PLAN_BASIC_FACTORS 7
+#define PLAN_RUNS 128
+
+/* Accepted. */
+#define PLAN_ACCEPTED 0
+/* N is outside 1 to 16. */
+#define PLAN_REFUSED_FACTORS 1
+/* G is at least N, or N - G is above 7. */
+#define PLAN_REFUSED_GENERATORS 2
+/* R is outside 3 to 16. Only calls that take R. */
+#define PLAN_REFUSED_RESOLUTION 3
+/* A list has not G words, N columns or 2^M runs. */
+#define PLAN_REFUSED_COUNT 4
+/* A column above 2^M - 1, or a bit past factor N in a word or a run. */
+#define PLAN_REFUSED_RANGE 5
+/* Words that are dependent (a word 0 among them), columns of rank below M, runs that are repeated or not regular. */
+#define PLAN_REFUSED_DEPENDENT 6
+/* A word of the plan, products of generators included, of fewer than three letters. A column 0 or repeated gives one. */
+#define PLAN_REFUSED_SHORT_WORD 7
+/* A lent list has fewer places than its result. */
+#define PLAN_REFUSED_PLACES 8
+/* The catalogue has more entries than the lent list has room for. Only plan_catalogue. */
+#define PLAN_REFUSED_ROOM 9
 
 #ifdef __cplusplus
 extern "C" {
@@ -71,7 +93,7 @@ uint8_t plan_distances_of_words(size_t n, size_t g, const uint16_t *words, size_
 uint8_t plan_distances_of_columns(size_t n, size_t g, const uint8_t *columns, size_t column_count, uint16_t *counts, size_t places);
 uint8_t plan_distances_of_runs(size_t n, size_t g, const uint16_t *runs, size_t run_count, uint16_t *counts, size_t places);
 
-/* The number under which plan_less_aberration refuses these two lists of words: 0 if it accepts them, else 1, 2 or 4 to 7. */
+/* The number under which plan_less_aberration refuses these two lists of words, PLAN_ACCEPTED if it does not. It lends no list. */
 uint8_t plan_aberration_refusal(size_t n, size_t g, const uint16_t *first, size_t first_count, const uint16_t *second, size_t second_count);
 
 /* Which of two plans of one N and G, given by words, has less aberration: patterns are compared from length 3 up to length M, and at the
@@ -80,29 +102,33 @@ uint8_t plan_aberration_refusal(size_t n, size_t g, const uint16_t *first, size_
 uint8_t plan_less_aberration(size_t n, size_t g, const uint16_t *first, size_t first_count, const uint16_t *second, size_t second_count);
 
 /* The comparison of two plans of one N and G. They are the same if renaming the factors and switching the levels of some of them turns one
- * set of runs into the other; the order of runs plays no part. Answers
- *   PLAN_SAME + mask         the same; the lent list's first N places are filled with the witness's names: factor f of the first plan becomes
- *                            factor witness[f] of the second, each of 0 to N - 1 being used once, and then the factors in the mask, which
- *                            are the second plan's, are switched
- *   PLAN_DIFFERENT + length  different; the first length where the patterns differ, 0 if they agree; the lent list is untouched
- *   1, 2, 4 to 8             refused, under the lowest number above that applies; the lent list is untouched
+ * set of runs into the other; the order of runs plays no part. The answer's kind and value are
+ *   PLAN_SAME, mask         the same; the witness list's first N places hold the names: factor f of the first plan becomes factor witness[f]
+ *                           of the second, each of 0 to N - 1 being used once, and then the factors in the mask, which are the second
+ *                           plan's, are switched
+ *   PLAN_DIFFERENT, length  different; the first length where the patterns differ, 0 if they agree; the witness list is untouched
+ *   PLAN_REFUSED, number    refused; the witness list is untouched
  * The witness list needs N places even if the plans are different. */
+#define PLAN_REFUSED UINT32_C(0)
 #define PLAN_SAME UINT32_C(0x10000)
 #define PLAN_DIFFERENT UINT32_C(0x20000)
 
-/* Of two plans given by columns. The mask is always 0. */
+#define PLAN_KIND(answer) ((answer) & UINT32_C(0x30000))
+#define PLAN_VALUE(answer) ((answer) & UINT32_C(0xffff))
+
+/* .. of two plans given by columns. The mask is always 0. */
 uint32_t plan_compare_columns(size_t n, size_t g, const uint8_t *first, size_t first_count, const uint8_t *second, size_t second_count,
                               uint8_t *witness, size_t places);
 
-/* Of two plans given by run tables, in any order of runs and with any levels switched. */
+/* .. of two plans given by run tables, in any order of runs and with any levels switched. */
 uint32_t plan_compare_runs(size_t n, size_t g, const uint16_t *first, size_t first_count, const uint16_t *second, size_t second_count,
                            uint8_t *witness, size_t places);
 
 /* The check of a claimed witness between two run tables. Answers
- *   PLAN_YES      there are N names, from 0 to N - 1 and each once, no bit of the mask is past factor N, and renaming and then switching
- *                 turns the first set of runs into the second
- *   PLAN_NO       anything else: any list of names, of any length, and any mask may be claimed
- *   1, 2, 4 to 7  a table is refused, under the lowest number above that applies */
+ *   PLAN_YES  there are N names, from 0 to N - 1 and each once, no bit of the mask is past factor N, and renaming and then switching turns
+ *             the first set of runs into the second
+ *   PLAN_NO   anything else: any list of names, of any length, and any mask may be claimed
+ * or, of the kind PLAN_REFUSED, the number under which a table is refused. */
 #define PLAN_YES UINT32_C(0x10000)
 #define PLAN_NO UINT32_C(0x20000)
 
@@ -115,22 +141,20 @@ uint32_t plan_check_witness(size_t n, size_t g, const uint16_t *first, size_t fi
  *   smallest  lent, N places: the columns of the smallest form, rising
  *   witness   lent, N places: factor f of the given plan becomes factor witness[f] of the smallest form, each of 0 to N - 1 being used once;
  *             this renaming turns the given columns' set of runs into that of the smallest form, and no levels are switched
- * Answers 0, or 1, 2, 4 to 8 as above; 8 if either lent list has fewer than N places. An accepted call leaves the places past the first N of
- * either list untouched, a refused one both lists. The three lists must not overlap. */
+ * PLAN_REFUSED_PLACES if either lent list has fewer than N places. */
 uint8_t plan_smallest_of_columns(size_t n, size_t g, const uint8_t *columns, size_t column_count, uint8_t *smallest, size_t smallest_places,
                                  uint8_t *witness, size_t witness_places);
 
 /* The catalogue for N, G and R: every smallest form of N factors and G generators whose words all have at least R letters (a full factorial
  * has none), in dictionary order: the earlier of two entries has the smaller column where they first differ. So each plan of this size
  * without a word below R is the same as exactly one entry. The lent list takes the entries one after another, N bytes each: it has room for
- * places / N of them, rounded down. The answer is a refusal's number and a count of entries:
- *   number 0     accepted; the list's first count * N places hold the catalogue's count entries, 0 if no plan is so, and the places past them
- *                are untouched
- *   number 1, 2  as above; the list is untouched, count 0
- *   number 3     R is outside 3 to 16; the list is untouched, count 0
- *   number 9     the catalogue has more entries than the list has room for; the list holds the first count of them, places / N rounded down,
- *                and any bytes past them are untouched
- * under the lowest number that applies. */
+ * places / N of them, rounded down. The answer is a number and how many entries the list holds:
+ *   PLAN_ACCEPTED            all of them, 0 if there is none; the places past them are untouched
+ *   PLAN_REFUSED_ROOM        the first ones, as many as there is room for; any bytes past them are untouched
+ *   PLAN_REFUSED_FACTORS,
+ *   PLAN_REFUSED_GENERATORS,
+ *   PLAN_REFUSED_RESOLUTION  0; the list is untouched
+ * The largest catalogue, N 16, G 9, R 3, has 745,413 entries and takes some ten seconds; most take milliseconds. */
 struct plan_entries {
     uint8_t number;
     size_t count;

@@ -7,7 +7,7 @@ mod plain;
 
 use families::{Draw, Family};
 use plain::admission::admit;
-use plan_tests::planner::plan_compare_columns;
+use planner::{plan_compare_columns, PLAN_SAME};
 use std::hint::black_box;
 use std::time::Instant;
 
@@ -19,12 +19,12 @@ type Decide = fn(usize, usize, &[u8], &[u8]) -> bool;
 
 fn by_the_library(n: usize, g: usize, first: &[u8], second: &[u8]) -> bool {
     let mut witness = [0; 16];
-    plan_compare_columns(n, g, first, second, &mut witness) == 0x1_0000
+    plan_compare_columns(n, g, first, second, &mut witness) == PLAN_SAME
 }
 
 fn by_plain_rust(n: usize, g: usize, first: &[u8], second: &[u8]) -> bool {
     let mut witness = [0; 16];
-    plain::compare_columns(n, g, first, second, &mut witness) == 0x1_0000
+    plain::compare_columns(n, g, first, second, &mut witness) == PLAN_SAME
 }
 
 /// By labels of both plans. The columns are admitted as the other two admit them.

@@ -1,7 +1,7 @@
 //! One exported call on a list, with a result list that is guarded on both sides.
 
 use crate::check::plan::{Form, Question};
-use crate::planner::*;
+use crate::guarded::*;
 
 /// A list in one of the three forms, with its sizes, as a call takes it.
 #[derive(Clone, Debug, PartialEq, Eq)]

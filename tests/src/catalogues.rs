@@ -6,8 +6,8 @@ use crate::check::refusals::{accepted, of_sizes};
 use crate::check::renamings::is_witness;
 use crate::check::runs::runs_of_columns;
 use crate::check::smallest::{no_word_below, smallest};
+use crate::guarded::{plan_catalogue, plan_smallest_of_columns};
 use crate::known::every_plan;
-use crate::planner::{plan_catalogue, plan_smallest_of_columns};
 use std::collections::BTreeSet;
 
 /// An accepted catalogue's answer is this and its entry count.
@@ -35,11 +35,24 @@ pub fn with_resolution(forms: &Entries, r: usize) -> Entries {
     forms.iter().filter(|form| no_word_below(r, form)).cloned().collect()
 }
 
+/// The answer as one number: `ENTRIES` and the entry count if accepted, else the refusal's. Fails unless a refused call counts the entries that
+/// it leaves in the list.
+fn answered(found: planner::Entries, n: usize, places: usize) -> u32 {
+    let (number, count) = (u32::from(found.number), found.count);
+    let left = if number == NO_ROOM { places / n } else { 0 };
+    assert!(number == 0 || count == left, "refused by {number} with {count} entries in {places} places");
+    if number == 0 {
+        ENTRIES + u32::try_from(count).expect("fewer than 2^32 entries")
+    } else {
+        number
+    }
+}
+
 /// The answer of a catalogue's call with a list of this many places, and the whole guarded list before and after it.
 pub fn call_catalogue(n: usize, g: usize, r: usize, places: usize) -> (u32, Vec<u32>, Vec<u32>) {
     let before = guarded(places);
     let mut lent = bytes(&before);
-    let answer = plan_catalogue(n, g, r, &mut lent[MARGIN..MARGIN + places]);
+    let answer = answered(plan_catalogue(n, g, r, &mut lent[MARGIN..MARGIN + places]), n, places);
     (answer, before, lent.iter().map(|&column| column.into()).collect())
 }
 

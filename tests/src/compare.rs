@@ -4,7 +4,7 @@ use crate::calls::{call, every_call, name, questions, Given};
 use crate::check::measures::{first_difference, pattern, second_is_better};
 use crate::check::plan::{places, Form, Plan, Question};
 use crate::check::refusals::{accepted, lowest, of_sizes};
-use crate::planner::{plan_aberration_refusal, plan_less_aberration};
+use crate::guarded::{plan_aberration_refusal, plan_less_aberration};
 use crate::random::Random;
 
 /// What a call on one plan may answer: 0, or the number of a refusal.
@@ -13,11 +13,21 @@ pub const ANSWERS: [u8; 8] = [0, 1, 2, 4, 5, 6, 7, 8];
 /// The same for the comparison of two lists of words, which lends no result.
 pub const RANKING_ANSWERS: [u8; 7] = [0, 1, 2, 4, 5, 6, 7];
 
-/// Which result lists a comparison lends: every kind to every call, or to each call one kind, taken at random.
+/// Which result lists a comparison lends: every kind to every call, to each call one kind, taken at random, or every length around the one
+/// that is enough.
 #[derive(Clone, Copy, PartialEq, Eq)]
 pub enum Lending {
     Every,
     AnyOne,
+    Around,
+}
+
+/// Lengths of lists around the one that is enough, and far from it.
+pub fn around(enough: usize) -> Vec<usize> {
+    let mut lengths = vec![0, 1, enough.saturating_sub(2), enough.saturating_sub(1), enough, enough + 1, enough + 2, 200];
+    lengths.sort();
+    lengths.dedup();
+    lengths
 }
 
 /// How often each call gave each answer.
@@ -59,11 +69,14 @@ impl Default for Tally {
 }
 
 /// Lengths of lent lists to try: one too short, just enough, longer. Where the sizes are refused no length is right.
-fn lengths(given: &Given, question: Question) -> Vec<usize> {
+fn lengths(given: &Given, question: Question, lending: Lending) -> Vec<usize> {
     if of_sizes(given.n, given.g) != 0 {
         return vec![0, 1, 200];
     }
     let enough = places(given.n, given.g, question);
+    if lending == Lending::Around {
+        return around(enough);
+    }
     let mut lengths = vec![enough + 3, enough];
     if enough > 0 {
         lengths.push(enough - 1);
@@ -93,7 +106,7 @@ fn compare_call(given: &Given, expected: &Result<Plan, u8>, question: Question, 
 pub fn compare(given: &Given, lending: Lending, tally: &mut Tally) {
     let expected = accepted(given.n, given.g, given.form, &given.list);
     for &question in questions(given.form) {
-        let lengths = lengths(given, question);
+        let lengths = lengths(given, question, lending);
         if lending == Lending::AnyOne {
             let lent = lengths[tally.random.below(lengths.len())];
             let answer = compare_call(given, &expected, question, lent);

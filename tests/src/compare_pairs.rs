@@ -1,6 +1,6 @@
 //! Comparisons of two plans held against the checking program.
 
-use crate::check::plan::Form;
+use crate::check::plan::{Form, Plan, Question};
 use crate::check::refusals::{accepted, lowest};
 use crate::check::renamings::is_witness;
 use crate::check::runs::runs_of_columns;
@@ -111,4 +111,19 @@ pub fn refusal(pair: &Pair, places: usize) -> u8 {
         0 if places < pair.n => 8,
         number => number,
     }
+}
+
+/// The plan of a list that is in order, by its standard columns.
+fn known(pair: &Pair, list: &[u32]) -> Known {
+    let plan = Plan::new(pair.n, pair.g, pair.form, list);
+    Known::new(pair.n - pair.g, &plan.answer(Question::Columns))
+}
+
+/// Compares any two lists, with a witness list of this many places.
+pub fn compare_any(pair: &Pair, places: usize, counts: &mut Counts) {
+    let expected = match refusal(pair, places) {
+        0 => expected(&known(pair, &pair.first), &known(pair, &pair.second)),
+        number => Expected::Refused(number),
+    };
+    compare_pair(pair, expected, places, counts);
 }

@@ -2,7 +2,8 @@
 
 use crate::calls::{bytes, guarded, shorts, MARGIN};
 use crate::check::plan::Form;
-use crate::planner::{plan_check_witness, plan_compare_columns, plan_compare_runs};
+use crate::guarded::{plan_check_witness, plan_compare_columns, plan_compare_runs};
+use planner::{PLAN_DIFFERENT, PLAN_NO, PLAN_SAME, PLAN_YES};
 
 /// Two plans in one form, columns or runs, with their sizes, as a call takes them.
 #[derive(Clone, Debug, PartialEq, Eq)]
@@ -41,17 +42,11 @@ pub struct Compared {
     pub after: Vec<u32>,
 }
 
-/// An answer of this is "same" with mask 0, or "yes".
-const SAME: u32 = 0x1_0000;
-
-/// An answer of this is "different" with length 0, or "no".
-const DIFFERENT: u32 = 0x2_0000;
-
 fn answer(number: u32) -> Answer {
     match number {
         1..=8 => Answer::Refused(number as u8),
-        SAME..=0x1_ffff => Answer::Same(number - SAME),
-        DIFFERENT..=0x2_0010 => Answer::Different((number - DIFFERENT) as usize),
+        PLAN_SAME..=0x1_ffff => Answer::Same(number - PLAN_SAME),
+        PLAN_DIFFERENT..=0x2_0010 => Answer::Different((number - PLAN_DIFFERENT) as usize),
         _ => panic!("a comparison answered {number:#x}"),
     }
 }
@@ -95,8 +90,8 @@ pub fn call_check(pair: &Pair, names: &[u32], mask: u32) -> Verdict {
     let mask = u16::try_from(mask).expect("a mask has 16 bits");
     match plan_check_witness(pair.n, pair.g, &shorts(&pair.first), &shorts(&pair.second), &bytes(names), mask) {
         number @ 1..=8 => Verdict::Refused(number as u8),
-        SAME => Verdict::Yes,
-        DIFFERENT => Verdict::No,
+        PLAN_YES => Verdict::Yes,
+        PLAN_NO => Verdict::No,
         number => panic!("the check of a witness answered {number:#x}"),
     }
 }

@@ -8,6 +8,7 @@ use crate::check::words::words_of;
 use crate::random::Random;
 
 /// A plan by columns of rank m in any order.
+#[derive(Clone, Debug)]
 pub struct Sample {
     pub n: usize,
     pub m: usize,

@@ -1,7 +1,7 @@
 //! Comparisons of lists that are damaged in every way: each refusal is reached, under the lowest number, and no list is touched.
 
-use plan_tests::check::plan::{Form, Plan, Question};
-use plan_tests::compare_pairs::{compare_pair, expected, refusal, Counts, Expected};
+use plan_tests::check::plan::Form;
+use plan_tests::compare_pairs::{compare_any, Counts};
 use plan_tests::known::Known;
 use plan_tests::pairs::Pair;
 use plan_tests::random::Random;
@@ -11,21 +11,6 @@ const FORMS: [Form; 2] = [Form::Columns, Form::Runs];
 
 /// What a comparison may refuse by.
 const REFUSALS: [usize; 7] = [1, 2, 4, 5, 6, 7, 8];
-
-/// The plan of a list that is in order, by its standard columns.
-fn known(pair: &Pair, list: &[u32]) -> Known {
-    let plan = Plan::new(pair.n, pair.g, pair.form, list);
-    Known::new(pair.n - pair.g, &plan.answer(Question::Columns))
-}
-
-/// Compares any two lists, with a witness list of this many places.
-fn compare_any(pair: &Pair, places: usize, counts: &mut Counts) {
-    let expected = match refusal(pair, places) {
-        0 => expected(&known(pair, &pair.first), &known(pair, &pair.second)),
-        number => Expected::Refused(number),
-    };
-    compare_pair(pair, expected, places, counts);
-}
 
 fn pair(n: usize, g: usize, form: Form, first: &[u32], second: &[u32]) -> Pair {
     Pair { n, g, form, first: first.to_vec(), second: second.to_vec() }

@@ -1,6 +1,7 @@
 //! The examples of document 01, called through the exported functions.
 
-use plan_tests::planner::*;
+use plan_tests::guarded::*;
+use planner::{PLAN_DIFFERENT, PLAN_NO, PLAN_SAME, PLAN_YES};
 
 const ABCD: u16 = 0b1111;
 const CDEF: u16 = 0b111100;
@@ -157,27 +158,23 @@ fn switching_levels_leaves_columns_pattern_and_distance_counts() {
     assert_eq!(counts, [1, 0, 3, 0]);
 }
 
-/// "Same" with mask 0 and "yes", "different" with length 0 and "no", as the comparison and the check of a witness answer them.
-const SAME: u32 = 0x1_0000;
-const DIFFERENT: u32 = 0x2_0000;
-
 #[test]
 fn p_and_q_are_different_with_length_0() {
     let mut witness = [99; 9];
-    assert_eq!(plan_compare_columns(9, 3, &P_COLUMNS, &Q_COLUMNS, &mut witness), DIFFERENT);
-    assert_eq!(plan_compare_columns(9, 3, &Q_COLUMNS, &P_COLUMNS, &mut witness), DIFFERENT);
+    assert_eq!(plan_compare_columns(9, 3, &P_COLUMNS, &Q_COLUMNS, &mut witness), PLAN_DIFFERENT);
+    assert_eq!(plan_compare_columns(9, 3, &Q_COLUMNS, &P_COLUMNS, &mut witness), PLAN_DIFFERENT);
     assert_eq!(witness, [99; 9]);
     let (mut p, mut q) = ([0; 64], [0; 64]);
     assert_eq!(plan_runs_of_columns(9, 3, &P_COLUMNS, &mut p), 0);
     assert_eq!(plan_runs_of_columns(9, 3, &Q_COLUMNS, &mut q), 0);
-    assert_eq!(plan_compare_runs(9, 3, &p, &q, &mut witness), DIFFERENT);
+    assert_eq!(plan_compare_runs(9, 3, &p, &q, &mut witness), PLAN_DIFFERENT);
     assert_eq!(witness, [99; 9]);
 }
 
 #[test]
 fn a_word_of_3_and_a_word_of_4_are_different_with_length_3() {
     let mut witness = [99; 4];
-    assert_eq!(plan_compare_columns(4, 1, &[1, 2, 3, 4], &[1, 2, 4, 7], &mut witness), DIFFERENT + 3);
+    assert_eq!(plan_compare_columns(4, 1, &[1, 2, 3, 4], &[1, 2, 4, 7], &mut witness), PLAN_DIFFERENT + 3);
     assert_eq!(witness, [99; 4]);
 }
 
@@ -194,9 +191,9 @@ fn a_witness_of_4_for_5_factors_is_refused_under_8_for_plans_that_are_the_same_o
 fn the_only_run_sets_of_one_factor_are_the_same_with_either_mask() {
     let mut witness = [99; 2];
     let answer = plan_compare_runs(1, 0, &[0, 1], &[1, 0], &mut witness);
-    assert!(answer == SAME || answer == SAME + 1, "{answer:#x}");
+    assert!(answer == PLAN_SAME || answer == PLAN_SAME + 1, "{answer:#x}");
     assert_eq!(witness, [0, 99]);
-    assert_eq!(plan_check_witness(1, 0, &[0, 1], &[1, 0], &[0], 0), SAME);
-    assert_eq!(plan_check_witness(1, 0, &[0, 1], &[1, 0], &[0], 1), SAME);
-    assert_eq!(plan_check_witness(1, 0, &[0, 1], &[1, 0], &[0], 2), DIFFERENT);
+    assert_eq!(plan_check_witness(1, 0, &[0, 1], &[1, 0], &[0], 0), PLAN_YES);
+    assert_eq!(plan_check_witness(1, 0, &[0, 1], &[1, 0], &[0], 1), PLAN_YES);
+    assert_eq!(plan_check_witness(1, 0, &[0, 1], &[1, 0], &[0], 2), PLAN_NO);
 }

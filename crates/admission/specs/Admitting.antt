@@ -289,6 +289,11 @@ pub answered : (fault : ℕ → Type 0) (n g : ℕ) (s : Runs) (k : ℕ) (r : Ad
     → Admission fault n g s k (replicate 16 0) → Admission fault n g s (r .number) (r .columns)
 answered fault n g s k r e a = subst (λ (v : Admitted). Admission fault n g s (v .number) (v .columns)) (sym e) a
 
+-- .. where the plan is refused
+pub plan-answered : (plan : ℕ → Type 0) (n g : ℕ) (s : Runs) (k : ℕ) → 0 < k → Size n g → Lowest plan k → (r : Admitted) → r ≡ record { number = k; columns = replicate 16 0 }
+    → Admission (either (SizeFault n g) plan) n g s (r .number) (r .columns)
+plan-answered plan n g s k h z l r e = answered (either (SizeFault n g) plan) n g s k r e (plan-refusal plan n g s k h (size-0 n g z) l)
+
 pub array-answered : (n m : ℕ) (c : List ℕ) (k : ℕ) (r : Admitted) → r ≡ record { number = k; columns = replicate 16 0 } → 0 < k → Lowest (ColumnsFault n m c) k → Columned n m c (r .number) (r .columns)
 array-answered n m c k r e h l = subst (λ (v : Admitted). Columned n m c (v .number) (v .columns)) (sym e) (array-refused n m c k h l)
 

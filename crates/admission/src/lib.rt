@@ -9,14 +9,15 @@ ghost use Rattle.regular.specs.Runs.{runsOf, switched};
 ghost use Rattle.regular.specs.Words.{Generated};
 ghost use Rattle.regular.specs.Columns.{planOf};
 ghost use Rattle.regular.specs.Refusals.{SizeFault, wordsFaults, runsFaults, designFaults, columnsFaults, Lowest};
+ghost use Rattle.regular.specs.RefusalLaws.{Lower};
 ghost use Rattle.admission.specs.Admission.{Admission, Columned};
 use bits::power;
 use bits::wide_byte;
 use regular::Admitted;
 use regular::Design;
 
-// 1 or 2 if the sizes are out of bounds, else 0.
-fn size_number(n: usize, g: usize) -> u8
+// 1 or 2 if the sizes are out of bounds, else 0. Public for lists of plans, which have sizes even when they are empty.
+pub fn size_number(n: usize, g: usize) -> u8
     ensures { λ r. ⌜ Lowest (SizeFault n g) r × (r ≡ 0 → Size n g) ⌝ }
 {
     if n < 1 {
@@ -32,6 +33,22 @@ fn size_number(n: usize, g: usize) -> u8
         return 2;
     }
     0
+}
+
+// The smaller of two refusals' numbers, 0 being none. Public for the calls on several plans.
+pub fn lower_of(a: u8, b: u8) -> u8
+    ensures { λ r. ⌜ Lower a b r ⌝ }
+{
+    if a == 0 {
+        return b;
+    }
+    if b == 0 {
+        return a;
+    }
+    if b < a {
+        return b;
+    }
+    a
 }
 
 // The answer of a refusal.

@@ -11,7 +11,7 @@ use borrow.Author.Tests.{leb-true, leb-false}
 use lib.Dec.{leb}
 use lib.ListN.{length, getD, drop, set, length-set}
 use lib.Seq.{getD-set-same, getD-set-other, drop-set-lt, drop-drop, getD-drop}
-use Rattle.catalogue.specs.Lists.{ListsBytes}
+use Rattle.regular.specs.Catalogues.{ListsBytes}
 use Rattle.catalogue.specs.Turns.{Goes, Stops, Put, Filling}
 use Rattle.catalogue.proofs.Turns.{with-entry, with-same, with-other, progress-none, progress-more, stopped}
 

@@ -14,7 +14,7 @@ use Rattle.regular.specs.Designs.{blank}
 use Rattle.regular.specs.declared.Design.{Design}
 use Rattle.regular.specs.Smallest.{Entry}
 use Rattle.catalogue.specs.declared.Listed.{Listed}
-use Rattle.catalogue.specs.Lists.{ListsDesigns}
+use Rattle.regular.specs.Catalogues.{ListsDesigns}
 use Rattle.catalogue.specs.Turns.{Turned}
 use Rattle.catalogue.specs.Records.{Head, Stepped, Listing}
 use Rattle.catalogue.proofs.Turns.{with-entry, with-same, with-other, progress-none, progress-more, stopped, clash}

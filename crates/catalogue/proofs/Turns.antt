@@ -10,9 +10,10 @@ use native.Mathlib.Omega.{arith}
 use borrow.Author.Tests.{lt-ltb, eq-eqb, ne-eqb}
 use lib.Dec.{eqb}
 use lib.ListN.{length, getD}
-use Rattle.regular.specs.Refusals.{SizeFault, Lowest}
+use Rattle.regular.specs.Refusals.{SizeFault, ResolutionFault, RoomFault, Lowest, sizeFaults}
 use Rattle.regular.specs.RefusalLaws.{lowest-none, lowest-at, lowest-first, lowest-then}
 use Rattle.regular.specs.Smallest.{Equal, Entry, Catalogue}
+use Rattle.regular.specs.Catalogues.{Catalogues}
 use Rattle.smallest_laws.specs.Dictionary.{equal-sym, equal-before, before-equal, equal-trans}
 use Rattle.smallest_laws.specs.Growth.{entry-equal}
 use Rattle.smallest_laws.specs.Value.{value}
@@ -22,8 +23,7 @@ use Rattle.catalogue_laws.specs.Model.{entries}
 use Rattle.catalogue_laws.specs.Steps.{First, bound}
 use Rattle.catalogue_laws.specs.Walked.{Begun, edge, catalogued, begun-room, begun-first}
 use Rattle.entries.specs.Stepping.{Stepped}
-use Rattle.catalogue.specs.Faults.{ResolutionFault, RoomFault, Sized, sizeFaults}
-use Rattle.catalogue.specs.Lists.{Catalogues}
+use Rattle.catalogue.specs.Sized.{Sized}
 use Rattle.catalogue.specs.Turns.{from, Goes, Stops, Turned, Progress}
 
 pub clash : true ≡ false → ⊥

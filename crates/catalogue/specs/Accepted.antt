@@ -5,11 +5,10 @@ use mathlib.Core.List.{List}
 use Prim.Native.Nat.{ℕ, _-_, _≤_, _<_}
 use native.Mathlib.Decide.{decLt}
 use native.Mathlib.Omega.{arith}
-use Rattle.regular.specs.Refusals.{Lowest}
+use Rattle.regular.specs.Refusals.{ResolutionFault, Lowest}
 use Rattle.regular.specs.RefusalLaws.{none-lowest}
+use Rattle.regular.specs.Catalogues.{catalogueFaults, Catalogues}
 use Rattle.catalogue_laws.specs.Demand.{Whole, whole}
-use Rattle.catalogue.specs.Faults.{ResolutionFault, catalogueFaults}
-use Rattle.catalogue.specs.Lists.{Catalogues}
 
 pub accepted-whole : (n g r : ℕ) (room : ℕ → Type 0) (entry : ℕ → List ℕ) (number count : ℕ) → Catalogues n g r room entry number count → number ≡ 0 → Whole n (n - g) r count entry
 accepted-whole n g r room entry number count c e = whole n (n - g) r count entry low (c .whole e)

@@ -1,5 +1,4 @@
-pub mod Faults
-pub mod Lists
+pub mod Sized
 pub mod Turns
 pub mod Records
 pub mod Accepted

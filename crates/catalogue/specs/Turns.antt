@@ -5,12 +5,12 @@ use mathlib.Core.List.{List}
 use Prim.Native.Nat.{ℕ, _+_, _*_, _-_, _≤_, _<_}
 use lib.Dec.{ltb}
 use lib.ListN.{length, getD, drop}
-use Rattle.regular.specs.Refusals.{Lowest}
+use Rattle.regular.specs.Refusals.{Lowest, sizeFaults}
 use Rattle.regular.specs.Smallest.{Equal, Entry}
 use Rattle.smallest_laws.specs.Value.{value}
 use Rattle.catalogue_laws.specs.Steps.{Held, First, bound}
 use Rattle.catalogue_laws.specs.Walked.{Begun, edge}
-use Rattle.catalogue.specs.Faults.{Sized, sizeFaults}
+use Rattle.catalogue.specs.Sized.{Sized}
 
 -- where the search for the i-th entry starts, c being the one before it
 abbrev pub from : ℕ → ℕ → List ℕ → ℕ

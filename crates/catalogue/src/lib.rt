@@ -3,21 +3,15 @@ ghost use mathlib.Core.Path.{_≡_};
 ghost use mathlib.Core.Bool.{true, false};
 ghost use Prim.Native.Nat.{ℕ, _+_, _<_, _≤_};
 ghost use lib.ListN.{length};
-ghost use Rattle.regular.specs.Refusals.{Lowest};
-ghost use Rattle.catalogue.specs.Faults.{Sized, sizeFaults};
+ghost use Rattle.regular.specs.Refusals.{Lowest, sizeFaults};
+ghost use Rattle.catalogue.specs.Sized.{Sized};
 ghost use Rattle.regular.specs.Designs.{blank};
 ghost use Rattle.catalogue.specs.Turns.{Going, Turned, Put};
 ghost use Rattle.catalogue.specs.Records.{Stepped};
-ghost use Rattle.catalogue.specs.Lists.{ListsBytes, ListsDesigns};
+ghost use Rattle.regular.specs.Catalogues.{ListsBytes, ListsDesigns};
 use entries::next_entry;
+use regular::CatalogueAnswer;
 use regular::Design;
-
-// A refusal's number, 0 if accepted, and how many entries the list holds: none if refused by 1, 2 or 3.
-#[repr(C)]
-pub struct CatalogueAnswer {
-    pub number: u8,
-    pub count: usize,
-}
 
 // What a turn finds: the next entry's columns, or the answer's number.
 struct Turn {

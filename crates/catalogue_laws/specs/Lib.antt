@@ -1,7 +1,6 @@
 pub mod Demand
 pub mod Model
 pub mod Listing
-pub mod Board
 pub mod Steps
 pub mod Walk
 pub mod Walked

@@ -6,7 +6,7 @@ use mathlib.Core.List.{List, [], _∷_, _++_}
 use Prim.Native.Nat.{ℕ, zero, suc, _+_, _-_, _^_, _≤_, _<_}
 use native.Mathlib.Omega.{arith}
 use native.Mathlib.Decide.{ℕ-discrete, decLt}
-use lib.Dec.{eqb, ltb, leb, T, leb→le, le→leb, ltb→lt, lt→ltb}
+use lib.Dec.{eqb, ltb, leb}
 use lib.ListN.{getD, length, length-append, List·getD-append}
 use lib.Seq.{getD-append-seam}
 use Rattle.regular.specs.Columns.{planOf}
@@ -17,32 +17,17 @@ use Rattle.smallest_laws.specs.Beating.{own-beaten}
 use Rattle.smallest_laws.specs.Dictionary.{equal-sym}
 use Rattle.smallest_laws.specs.Growth.{agree-entry, agree-units, agree-left, entry-units, entry-none, next-rising, next-long, long-next}
 use Rattle.smallest_laws.specs.Prefix.{smallest-next}
-use Rattle.smallest_laws.specs.Presence.{clash, told, eqb-is, is-eqb}
-use Rattle.smallest_laws.specs.Search.{any-none, none-any, beaten, search-beats, search-smallest, and-both, both-and, not-is, is-not}
+use Rattle.smallest_laws.specs.Search.{any-none, none-any, beaten, search-beats, search-smallest}
 use Rattle.catalogue_laws.specs.Model.{short, fits, may, choose, branch, listing, entries}
-
-T-true : (b : Bool) → T b → b ≡ true
-T-true true h = refl
-T-true false h = absurd h
-
-leb-is : (a b : ℕ) → leb a b ≡ true → a ≤ b
-leb-is a b e = leb→le a b (subst T (sym e) tt)
-
-is-leb : (a b : ℕ) → a ≤ b → leb a b ≡ true
-is-leb a b h = T-true (leb a b) (le→leb a b h)
-
-ltb-is : (a b : ℕ) → ltb a b ≡ true → a < b
-ltb-is a b e = ltb→lt a b (subst T (sym e) tt)
-
-is-ltb : (a b : ℕ) → a < b → ltb a b ≡ true
-is-ltb a b h = T-true (ltb a b) (lt→ltb a b h)
+use borrow.Author.Tests.{eqb-true, eq-eqb, leb-true, le-leb, ltb-true, lt-ltb, not-true}
+use Rattle.gf2.specs.Truth.{clash, told, and-both, both-and, false-not}
 
 -- the test for short words
 pub not-short : (r k : ℕ) (c : List ℕ) → short r k c ≡ false → (w : ℕ) → w < 2 ^ k → total c k w ≡ getD c k 0 → r ≤ suc (letters w)
 unfolding short
 not-short r k c e w h z =
     by-cases (decLt (suc (letters w)) r)
-    (λ l. absurd (clash (both-and (eqb (total c k w) (getD c k 0)) (ltb (suc (letters w)) r) (is-eqb (total c k w) (getD c k 0) z) (is-ltb (suc (letters w)) r l))
+    (λ l. absurd (clash (both-and (eqb (total c k w) (getD c k 0)) (ltb (suc (letters w)) r) (eq-eqb (total c k w) (getD c k 0) z) (lt-ltb (suc (letters w)) r l))
     (any-none (λ v. eqb (total c k v) (getD c k 0) && ltb (suc (letters v)) r) (2 ^ k) w e h)))
     (λ l. omega arith)
 
@@ -50,7 +35,7 @@ pub long-short : (r k : ℕ) (c : List ℕ) → ((w : ℕ) → w < 2 ^ k → tot
 unfolding short
 long-short r k c h = none-any (λ v. eqb (total c k v) (getD c k 0) && ltb (suc (letters v)) r) (2 ^ k)
     (λ w l e. let b = and-both (eqb (total c k w) (getD c k 0)) (ltb (suc (letters w)) r) e in
-    omega (arith, h w l (eqb-is (total c k w) (getD c k 0) (b .0)), ltb-is (suc (letters w)) r (b .1)))
+    omega (arith, h w l (eqb-true (total c k w) (getD c k 0) (b .0)), ltb-true (suc (letters w)) r (b .1)))
 
 -- the test for one more column, after an entry, above its columns
 module _ (r k : ℕ) (c : List ℕ) (e : Entry k (unitsBefore c k) r c) (some : 0 < getD c k 0) (up : (f : ℕ) → f < k → getD c f 0 < getD c k 0) where
@@ -60,11 +45,11 @@ module _ (r k : ℕ) (c : List ℕ) (e : Entry k (unitsBefore c k) r c) (some : 
       let u = unitsBefore c (suc k) in
       let a = and-both (leb (getD c k 0) (2 ^ unitsBefore c k)) (not (short r k c) && not (beaten (suc k) c u [])) h in
       let b = and-both (not (short r k c)) (not (beaten (suc k) c u [])) (a .1) in
-      let top = leb-is (getD c k 0) (2 ^ unitsBefore c k) (a .0) in
+      let top = leb-true (getD c k 0) (2 ^ unitsBefore c k) (a .0) in
       let rise = next-rising k r c e some up top in
       record {
-        smallest = search-smallest (suc k) u c rise (not-is (beaten (suc k) c u []) (b .1));
-        long = next-long k (unitsBefore c k) u r c (e .smallest .columns .below) (rise .below) (e .long) (not-short r k c (not-is (short r k c) (b .0)));
+        smallest = search-smallest (suc k) u c rise (not-true (beaten (suc k) c u []) (b .1));
+        long = next-long k (unitsBefore c k) u r c (e .smallest .columns .below) (rise .below) (e .long) (not-short r k c (not-true (short r k c) (b .0)));
       }
 
   pub entry-fits : Entry (suc k) (unitsBefore c (suc k)) r c → fits r k c ≡ true
@@ -72,10 +57,10 @@ module _ (r k : ℕ) (c : List ℕ) (e : Entry k (unitsBefore c k) r c) (some : 
   entry-fits h =
       let u = unitsBefore c (suc k) in
       both-and (leb (getD c k 0) (2 ^ unitsBefore c k)) (not (short r k c) && not (beaten (suc k) c u []))
-      (is-leb (getD c k 0) (2 ^ unitsBefore c k) (smallest-next (suc k) u (planOf (suc k) u c) c (h .smallest) k (omega arith)))
+      (le-leb (getD c k 0) (2 ^ unitsBefore c k) (smallest-next (suc k) u (planOf (suc k) u c) c (h .smallest) k (omega arith)))
       (both-and (not (short r k c)) (not (beaten (suc k) c u []))
-      (is-not (short r k c) (long-short r k c (long-next k (unitsBefore c k) u r c (h .long))))
-      (is-not (beaten (suc k) c u []) (⊎-elim
+      (false-not (short r k c) (long-short r k c (long-next k (unitsBefore c k) u r c (h .long))))
+      (false-not (beaten (suc k) c u []) (⊎-elim
       (λ q. let w = search-beats (suc k) u c (h .smallest .columns) q in
       absurd (own-beaten (suc k) u c (h .smallest .columns) (w .0) (w .1 .0) (w .1 .1) (h .smallest)))
       (λ q. q) (told (beaten (suc k) c u [])))))
@@ -197,13 +182,13 @@ module _ (n m r : ℕ) where
           let w : suc k ≤ n = omega arith in
           let b = equal-sym (suc k) q e (subst (λ (i : ℕ). Equal i q e) len a) in
           clash (both-and (leb m (unitsBefore q (suc k) + d)) (fits r k q)
-          (is-leb m (unitsBefore q (suc k) + d) (omega (arith, agree-left n m r e he q (suc k) w b)))
+          (le-leb m (unitsBefore q (suc k) + d) (omega (arith, agree-left n m r e he q (suc k) w b)))
           (entry-fits r k q was some above (agree-entry n m r e he q (suc k) w b))) h
 
   -- whole lists
   ends : (p : List ℕ) (lo : ℕ) → Start p lo → length p ≡ n → (b : Bool) → eqb (unitsBefore p (length p)) m ≡ b → Rows p lo (choose b (p ∷ []))
   ends p lo s h true e =
-      let w : Entry n m r p = subst (λ (i : ℕ). Entry i m r p) h (subst (λ (u : ℕ). Entry (length p) u r p) (eqb-is (unitsBefore p (length p)) m e) (s .entry)) in
+      let w : Entry n m r p = subst (λ (i : ℕ). Entry i m r p) h (subst (λ (u : ℕ). Entry (length p) u r p) (eqb-true (unitsBefore p (length p)) m e) (s .entry)) in
       record {
         sound = λ c i. ⊎-elim (λ z. subst (Entry n m r) (sym z) w) (λ z. absurd z) i;
         starts = λ c i. ⊎-elim (λ z f l. ap (λ (d : List ℕ). getD d f 0) (sym z)) (λ z. absurd z) i;
@@ -218,7 +203,7 @@ module _ (n m r : ℕ) where
     order = tt;
     complete = λ d i a z.
         let u = agree-units n m r d i p n (omega arith) (equal-sym n p d (subst (λ (j : ℕ). Equal j p d) h a)) in
-        absurd (clash (is-eqb (unitsBefore p (length p)) m (ap (unitsBefore p) h ∙ u ∙ entry-units n m r d i)) e);
+        absurd (clash (eq-eqb (unitsBefore p (length p)) m (ap (unitsBefore p) h ∙ u ∙ entry-units n m r d i)) e);
   }
 
   -- the lists that start with p, x, and then those from p, x + 1 on

@@ -7,7 +7,7 @@ use Prim.Native.Nat.{ℕ, zero, suc, _+_, _-_, _*_, _^_, _≤_, _<_}
 use native.Mathlib.Nat.{two-pow-succ}
 use native.Mathlib.Omega.{arith}
 use native.Mathlib.Decide.{decLt}
-use lib.Bits.{bitXor, xor-lt, xor-self, xor-zero-l}
+use lib.Bits.{bitXor, xor-zero-l}
 use lib.Pow.{pow-pos}
 use lib.ListN.{length, getD, List·getD-append}
 use lib.Seq.{getD-at}
@@ -19,7 +19,7 @@ use Rattle.regular.specs.Columns.{runOf, Below, Spans}
 use Rattle.regular.specs.Words.{total, Independent}
 use Rattle.standard.specs.FromColumns.{spans-apart, apart-inj}
 use Rattle.standard.specs.Runs.{run-lt, total-lt, odd-total}
-use Rattle.standard.specs.Total.{total-xor, total-cols, total-none, total-next, total-more, InSpan}
+use Rattle.standard.specs.Total.{total-cols, total-none, total-next, total-more, InSpan, independent-once}
 
 -- a one-to-one map of the numbers below k to numbers below k reaches each of them
 pub onto-self : (F : ℕ → ℕ) (k : ℕ) → ((i : ℕ) → i < k → F i < k) → ((i j : ℕ) → i < k → j < k → F i ≡ F j → i ≡ j)
@@ -30,12 +30,7 @@ onto-self F k lt inj v h =
     (λ z m. let r = of-to F k z m in upto-in k z (omega (arith, lt (r .0) (r .1 .0), r .1 .1)))
     (omega (arith, to-length F k, upto-length k)) v (upto-in k v h))
 
--- independent columns: different choices, different sums
-pub independent-once : (r : ℕ) (t : List ℕ) → Independent r t → (i j : ℕ) → i < 2 ^ r → j < 2 ^ r → total t r i ≡ total t r j → i ≡ j
-independent-once r t ind i j hi hj e =
-    xor-none i j (ind (bitXor i j) (xor-lt r i j hi hj) (total-xor t r i j ∙ ap (λ (x : ℕ). bitXor x (total t r j)) e ∙ xor-self (total t r j)))
-
--- .. they are at most as many as their bits
+-- independent columns are at most as many as their bits
 pub independent-few : (r m : ℕ) (t : List ℕ) → Independent r t → Below r m t → r ≤ m
 independent-few r m t ind b =
     pow-le-inv r m

@@ -10,21 +10,15 @@ use native.Mathlib.Decide.{ℕ-discrete, decLt}
 use lib.Arith.{lt-one}
 use lib.Bits.{bitXor, bitOr, or-shifted-r, xor-comm, xor-shifted}
 use lib.Pow.{shl-exact}
-use lib.ListN.{length, getD, set, replicate, length-set, length-replicate, getD-replicate, List·getD-eq-default}
+use lib.ListN.{length, getD, set, replicate, length-set}
 use lib.Seq.{getD-set-same, getD-set-other}
 use Rattle.gf2.specs.Digits.{bit}
 use Rattle.gf2.specs.Parity.{odd-bit}
+use Rattle.gf2.specs.Fill.{zeros}
 use Rattle.regular.specs.Columns.{runOf, RunTable}
 use Rattle.standard.specs.Form.{Repeat}
 use Rattle.standard.specs.Runs.{run-lt, run-zero, run-xor}
 use Rattle.column_forms.specs.Tables.{Copied, Held, Grown, Seen}
-
--- a blank table is 0 everywhere
-pub blank-at : (n k : ℕ) → getD {A = ℕ} (replicate n 0) k 0 ≡ 0
-blank-at n k =
-    by-cases (decLt k n)
-    (λ h. getD-replicate n k 0 0 h)
-    (λ h. List·getD-eq-default (replicate n 0) 0 {n = k} (omega (arith, length-replicate {A = ℕ} n 0)))
 
 -- a table copied to its second half
 pub copied-none : (u half : ℕ) (s : List ℕ) → Copied u half 0 s s
@@ -100,7 +94,7 @@ grown-all c half k s p sums places e g = subst (λ (i : ℕ). Grown c half i s p
 -- the marks of columns
 pub seen-none : (c t : List ℕ) → t ≡ replicate 128 0 → Seen c 0 (set t 0 1)
 seen-none c t e =
-    let z : (k : ℕ) → getD t k 0 ≡ 0 = λ k. ap (λ (x : List ℕ). getD x k 0) e ∙ blank-at 128 k in
+    let z : (k : ℕ) → getD t k 0 ≡ 0 = λ k. ap (λ (x : List ℕ). getD x k 0) e ∙ zeros 128 k in
     let l : length t ≡ 128 = ap length e in
     record {
       size = length-set t 0 1 ∙ l;
@@ -155,8 +149,8 @@ pub runs-none : (n : ℕ) (c : List ℕ) → RunTable n 0 c (replicate 128 0)
 runs-none n c =
     record {
       places = refl;
-      run = λ j h. blank-at 128 j ∙ sym (ap (runOf c n) (lt-one h) ∙ run-zero c n);
-      unused = λ j h. blank-at 128 j;
+      run = λ j h. zeros 128 j ∙ sym (ap (runOf c n) (lt-one h) ∙ run-zero c n);
+      unused = λ j h. zeros 128 j;
     }
 
 pub runs-more : (n d : ℕ) (c s t : List ℕ) (u half : ℕ) → half ≡ 2 ^ d → u ≡ runOf c n (2 ^ d) → RunTable n d c s → Copied u half half s t → RunTable n (d + 1) c t

@@ -1,9 +1,9 @@
 -- The walk over columns that finds their standard columns by span doubling: what holds after f of them, its steps, and what it has found.
-use mathlib.Core.Path.{_≡_, refl, sym, ap, ap₂, _∙_, subst}
+use mathlib.Core.Path.{_≡_, refl, sym, ap, _∙_, subst}
 use mathlib.Core.Logic.{by-cases}
 use mathlib.Core.Bool.{Bool, true, false}
 use mathlib.Core.List.{List, [], _∷_, _++_}
-use Prim.Native.Nat.{ℕ, zero, suc, _+_, _-_, _^_, _≤_, _<_}
+use Prim.Native.Nat.{ℕ, suc, _+_, _-_, _^_, _≤_, _<_}
 use native.Mathlib.Nat.{two-pow-succ}
 use native.Mathlib.Numerals.{add-one}
 use native.Mathlib.Omega.{arith}
@@ -13,18 +13,19 @@ use lib.Dec.{eqb}
 use lib.Bits.{bitXor}
 use lib.Pow.{pow-pos, pow-mono}
 use lib.ListN.{length, getD, set, replicate, length-append}
-use lib.Seq.{getD-set-same, getD-set-other}
+use lib.Seq.{getD-set-same}
 use Rattle.gf2.specs.DigitLaws.{pow-inj}
-use Rattle.gf2.specs.Digits.{pick}
+use Rattle.gf2.specs.Fill.{zeros}
 use Rattle.regular.specs.Columns.{runOf, planOf, Below, Spans}
 use Rattle.regular.specs.Words.{total, Independent}
 use Rattle.standard.specs.Form.{unitsBefore, StandardFor, Found}
 use Rattle.standard.specs.Runs.{run-lt, total-lt}
-use Rattle.standard.specs.Total.{total-none, InSpan, span-at, span-total}
+use Rattle.standard.specs.Total.{total-none, InSpan, span-at, span-total, independent-once}
 use Rattle.standard.specs.Units.{units-next}
+use Rattle.standard.specs.NextColumn.{set-units, set-column, set-next, set-unused}
 use Rattle.column_forms.specs.Tables.{Held, Doubles, Grown}
-use Rattle.column_forms.specs.TableLaws.{blank-at, held-more, held-same}
-use Rattle.column_forms.specs.Basis.{independent-once, independent-few, independent-spans, spans-many, more-old, more-new, more-low, more-high, more-unit, more-independent, run-through, runs-all}
+use Rattle.column_forms.specs.TableLaws.{held-more, held-same}
+use Rattle.column_forms.specs.Basis.{independent-few, independent-spans, spans-many, more-old, more-new, more-low, more-high, more-unit, more-independent, run-through, runs-all}
 
 -- after f of the n columns c: the basis has the columns that were no sum of those before them, in their order; sums holds what it reaches,
 -- half numbers, and places finds them again; a has the standard columns so far, each taken by the basis to the column of c
@@ -41,49 +42,17 @@ pub record Walk (n m : ℕ) (c : List ℕ) (f half : ℕ) (sums places a : List 
   pub column : (g : ℕ) → g < f → (getD a g 0 < half) × (total basis rank (getD a g 0) ≡ getD c g 0)
   pub unused : (g : ℕ) → f ≤ g → getD a g 0 ≡ 0
 
--- units, of columns that agree, and where the next is none
-units-same : (a b : List ℕ) (f : ℕ) → ((g : ℕ) → g < f → getD a g 0 ≡ getD b g 0) → unitsBefore a f ≡ unitsBefore b f
-unfolding unitsBefore
-units-same a b zero h = refl
-units-same a b (suc f) h =
-    ap₂ (λ (x k : ℕ). k + pick (eqb x (2 ^ k)) 1 0) (h f (omega arith)) (units-same a b f (λ g l. h g (omega arith)))
-
+-- no unit more where the next column is none
 units-stay : (a : List ℕ) (f : ℕ) → getD a f 0 < 2 ^ unitsBefore a f → unitsBefore a (suc f) ≡ unitsBefore a f
 unfolding unitsBefore
 units-stay a f h = rw (ne-eqb (getD a f 0) (2 ^ unitsBefore a f) (λ e. omega arith)) (omega arith)
-
--- one more standard column
-module _ (a : List ℕ) (f v : ℕ) (l : f < length a) where
-  set-old : (g : ℕ) → g < f → getD (set a f v) g 0 ≡ getD a g 0
-  set-old g h = getD-set-other a f g v 0 (λ e. omega arith)
-
-  set-new : getD (set a f v) f 0 ≡ v
-  set-new = getD-set-same a f v 0 l
-
-  set-units : (g : ℕ) → g ≤ f → unitsBefore (set a f v) g ≡ unitsBefore a g
-  set-units g h = units-same (set a f v) a g (λ i p. set-old i (omega arith))
-
-  set-next : v ≤ 2 ^ unitsBefore a f → ((g : ℕ) → g < f → getD a g 0 ≤ 2 ^ unitsBefore a g) → (g : ℕ) → g < f + 1 → getD (set a f v) g 0 ≤ 2 ^ unitsBefore (set a f v) g
-  set-next hv nx g h =
-      by-cases (ℕ-discrete g f)
-      (λ e. rw e (omega (arith, set-new, ap (λ (k : ℕ). 2 ^ k) (set-units f (omega arith)))))
-      (λ ne. omega (arith, nx g (omega arith), set-old g (omega arith), ap (λ (k : ℕ). 2 ^ k) (set-units g (omega arith))))
-
-  set-unused : ((g : ℕ) → f ≤ g → getD a g 0 ≡ 0) → (g : ℕ) → f + 1 ≤ g → getD (set a f v) g 0 ≡ 0
-  set-unused un g h = getD-set-other a f g v 0 (λ e. omega arith) ∙ un g (omega arith)
-
-  set-column : (P : ℕ → ℕ → Type 0) → P f v → ((g : ℕ) → g < f → P g (getD a g 0)) → (g : ℕ) → g < f + 1 → P g (getD (set a f v) g 0)
-  set-column P new old g h =
-      by-cases (ℕ-discrete g f)
-      (λ e. subst (λ (i : ℕ). P i (getD (set a f v) i 0)) (sym e) (subst (P f) (sym set-new) new))
-      (λ ne. subst (P g) (sym (set-old g (omega arith))) (old g (omega arith)))
 
 -- nothing passed: the empty basis reaches 0
 pub walk-none : (n m : ℕ) (c : List ℕ) → Walk n m c 0 1 (replicate 128 0) (set (replicate 128 0) 0 1) (replicate 16 0)
 unfolding unitsBefore total
 walk-none n m c =
     let blank : Held (λ k. 0) 0 (replicate 128 0) (replicate 128 0) =
-    record { filled = λ i h. absurd (omega arith); back = λ i h. absurd (omega arith); only = λ v i e. absurd (omega (arith, blank-at 128 v)) } in
+    record { filled = λ i h. absurd (omega arith); back = λ i h. absurd (omega arith); only = λ v i e. absurd (omega (arith, zeros 128 v)) } in
     record {
       basis = [];
       rank = 0;
@@ -95,7 +64,7 @@ walk-none n m c =
       units = refl;
       next = λ g h. absurd (omega arith);
       column = λ g h. absurd (omega arith);
-      unused = λ g h. blank-at 16 g;
+      unused = λ g h. zeros 16 g;
     }
 
 module _ (n m : ℕ) (c : List ℕ) (f half : ℕ) (sums places a : List ℕ) (w : Walk n m c f half sums places a) where
@@ -125,8 +94,8 @@ module _ (n m : ℕ) (c : List ℕ) (f half : ℕ) (sums places a : List ℕ) (w
       let o = w .held .only (getD c f 0) i e in
       let p : i < 2 ^ r = omega (arith, o .0, w .size) in
       let q = ap (λ (k : ℕ). 2 ^ k) (w .units) in
-      let u = set-units a f i l f (omega arith) in
-      let lt : getD (set a f i) f 0 < 2 ^ unitsBefore (set a f i) f = omega (arith, set-new a f i l, ap (λ (k : ℕ). 2 ^ k) u) in
+      let u = set-units a f i f (omega arith) in
+      let lt : getD (set a f i) f 0 < 2 ^ unitsBefore (set a f i) f = omega (arith, getD-set-same a f i 0 l, ap (λ (k : ℕ). 2 ^ k) u) in
       record {
         basis = w .basis;
         rank = r;
@@ -138,7 +107,7 @@ module _ (n m : ℕ) (c : List ℕ) (f half : ℕ) (sums places a : List ℕ) (w
         units = rw (add-one f) (units-stay (set a f i) f lt ∙ u ∙ w .units);
         next = set-next a f i l (omega arith) (w .next);
         column = set-column a f i l (λ g v. (v < half) × (total (w .basis) r v ≡ getD c g 0)) o (w .column);
-        unused = set-unused a f i l (w .unused);
+        unused = set-unused a f i (w .unused);
       }
 
   -- the next column is no sum of the basis
@@ -191,9 +160,9 @@ module _ (n m : ℕ) (c : List ℕ) (f half : ℕ) (sums places a : List ℕ) (w
         let pp = pow-pos r in
         let F = total wider (suc r) in
         let low : (k : ℕ) → k < half → total t r k ≡ F k = λ k h. sym (more-low t r (w .count) x k (omega arith)) in
-        let u = set-units a f half l f (omega arith) in
+        let u = set-units a f half f (omega arith) in
         let q : half ≡ 2 ^ unitsBefore a f = e ∙ ap (λ (k : ℕ). 2 ^ k) (sym (w .units)) in
-        let n1 : getD (set a f half) f 0 ≡ 2 ^ unitsBefore (set a f half) f = set-new a f half l ∙ q ∙ ap (λ (k : ℕ). 2 ^ k) (sym u) in
+        let n1 : getD (set a f half) f 0 ≡ 2 ^ unitsBefore (set a f half) f = getD-set-same a f half 0 l ∙ q ∙ ap (λ (k : ℕ). 2 ^ k) (sym u) in
         record {
           basis = wider;
           rank = suc r;
@@ -207,7 +176,7 @@ module _ (n m : ℕ) (c : List ℕ) (f half : ℕ) (sums places a : List ℕ) (w
           column = set-column a f half l (λ i v. (v < half + half) × (F v ≡ getD c i 0))
               (omega arith, ap F e ∙ more-unit t r (w .count) x)
               (λ i h. let o = w .column i h in (omega (arith, o .0), sym (low (getD a i 0) (o .0)) ∙ o .1));
-          unused = set-unused a f half l (w .unused);
+          unused = set-unused a f half (w .unused);
         }
 
 -- all columns passed: they have rank m exactly if the basis reaches 2^m numbers, and then the standard columns have their runs

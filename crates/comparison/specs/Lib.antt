@@ -1,4 +1,3 @@
 pub mod Matching
 pub mod Deciding
-pub mod Moving
 pub mod Settling

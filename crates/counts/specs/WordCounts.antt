@@ -6,15 +6,13 @@ use Prim.Native.Nat.{ℕ, zero, suc, _-_, _/_, _^_, _≤_, _<_}
 use native.Mathlib.Omega.{arith}
 use native.Mathlib.Decide.{ℕ-discrete}
 use lib.Arith.{bin-ind}
-use lib.Bits.{bitXor, xor-lt, xor-self}
 use lib.Count.{ones, ones-step}
 use lib.Pow.{pow-pos}
 use Rattle.gf2.specs.Counts.{Count, count-same, count-image}
-use Rattle.gf2.specs.DigitLaws.{xor-none}
 use Rattle.regular.specs.Pattern.{Pattern}
 use Rattle.regular.specs.Runs.{Runs}
-use Rattle.regular.specs.Words.{Word, letters, Independent, total}
-use Rattle.standard.specs.Total.{total-xor, total-none}
+use Rattle.regular.specs.Words.{Word, letters, total}
+use Rattle.standard.specs.Total.{total-none, independent-once}
 use Rattle.words.specs.Generators.{Generators}
 use Rattle.counts.specs.Counting.{count-from-one}
 use Rattle.counts.specs.Models.{products, PatternModel}
@@ -31,12 +29,6 @@ letters-some = bin-ind (λ (w : ℕ). 0 < w → 1 ≤ letters w) (λ h. absurd (
     some : (w : ℕ) → (0 < w / 2 → 1 ≤ letters (w / 2)) → 0 < w → 1 ≤ letters w
     some w ih h = by-cases (ℕ-discrete (w / 2) 0) (λ e. omega (arith, ones-step w)) (λ ne. omega (arith, ones-step w, ih (omega arith)))
 
--- different products of independent words are different
-pub products-once : (g : ℕ) (ws : List ℕ) → Independent g ws → (i j : ℕ) → i < 2 ^ g → j < 2 ^ g → total ws g i ≡ total ws g j → i ≡ j
-products-once g ws ind i j hi hj e =
-    xor-none i j (ind (bitXor i j) (xor-lt g i j hi hj)
-    (total-xor ws g i j ∙ ap (λ (y : ℕ). bitXor y (total ws g j)) e ∙ xor-self (total ws g j)))
-
 module _ (n g : ℕ) (s : Runs) (ws : List ℕ) (gen : Generators n g s ws) where
   -- a plan has 2^g - 1 words
   pub word-count : Count (Word n s) (2 ^ g - 1)
@@ -46,7 +38,7 @@ module _ (n g : ℕ) (s : Runs) (ws : List ℕ) (gen : Generators n g s ws) wher
       count-image (λ t. (0 < t) × (t < suc (2 ^ g - 1))) (Word n s) (2 ^ g - 1) (total ws g)
       (λ t h. gen .word t (h .0) (omega (arith, h .1)))
       (λ w h. let a = gen .all w h in (a .0, ((a .1 .0, omega (arith, a .1 .1 .0)), a .1 .1 .1)))
-      (λ i j p q h. products-once g ws (gen .independent) i j (omega (arith, p .1)) (omega (arith, q .1)) h)
+      (λ i j p q h. independent-once g ws (gen .independent) i j (omega (arith, p .1)) (omega (arith, q .1)) h)
       (count-from-one (2 ^ g - 1))
 
   -- and of each length as many as products
@@ -58,7 +50,7 @@ module _ (n g : ℕ) (s : Runs) (ws : List ℕ) (gen : Generators n g s ws) wher
       let k : letters w ≡ l = ap letters e ∙ p .1 .1 .0 in
       (subst (Word n s) (sym e) (gen .word (p .0) (not-none (p .0) (p .1 .1 .0)) (p .1 .0)), k))
       (λ w p. let a = gen .all w (p .0) in (a .0, (a .1 .1 .0, (ap letters (sym (a .1 .1 .1)) ∙ p .1, a .1 .1 .1))))
-      (tally-image (total ws g) (λ t. letters (total ws g t)) (2 ^ g) l (products-once g ws (gen .independent)))
+      (tally-image (total ws g) (λ t. letters (total ws g t)) (2 ^ g) l (independent-once g ws (gen .independent)))
     where
       not-none : (t : ℕ) → letters (total ws g t) ≡ l → 0 < t
       not-none zero e = absurd (omega (arith, ap letters (total-none ws g) ∙ letters-none))

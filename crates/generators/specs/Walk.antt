@@ -2,22 +2,23 @@
 use mathlib.Core.Path.{_≡_, refl, sym, ap, ap₂, _∙_}
 use mathlib.Core.Logic.{by-cases}
 use mathlib.Core.List.{List, [], _∷_, _++_}
-use Prim.Native.Nat.{ℕ, zero, suc, _+_, _-_, _*_, _^_, _≤_, _<_}
+use Prim.Native.Nat.{ℕ, _+_, _-_, _*_, _^_, _≤_, _<_}
 use native.Mathlib.Nat.{two-pow-succ, mul-comm}
 use native.Mathlib.Numerals.{add-one}
 use native.Mathlib.Omega.{arith}
 use native.Mathlib.Decide.{ℕ-discrete, decLt}
 use borrow.Author.Tests.{eq-eqb, ne-eqb}
 use lib.Bits.{bitXor}
-use lib.ListN.{length, getD, set, length-set, replicate, length-append, List·getD-append}
+use lib.ListN.{length, getD, set, length-set, replicate, length-append, List·getD-append, List·getD-eq-default}
 use lib.Seq.{getD-set-same, getD-set-other, getD-at}
 use Rattle.gf2.specs.Digits.{bit}
+use Rattle.gf2.specs.Fill.{zeros}
 use Rattle.regular.specs.Words.{total}
 use Rattle.standard.specs.Form.{unitsBefore}
 use Rattle.standard.specs.Units.{spread, unitsAt, unitary}
 use Rattle.words.specs.ToWords.{wordAt}
 use Rattle.words.specs.WordList.{wordsTo, listed}
-use Rattle.generators.specs.WordTable.{WordTable, past}
+use Rattle.generators.specs.WordTable.{WordTable}
 
 -- the basics as letters: the i-th at place i, the list having the last first
 abbrev pub Placed : List ℕ → List ℕ → Type 0
@@ -38,11 +39,6 @@ placed-total [] u k p = refl
 placed-total (q ∷ bs) u k p =
     ap₂ bitXor (placed-total bs u k (p .1)) (ap (λ (x : ℕ). x * bit (length bs) k) (p .0) ∙ swap (2 ^ q) (bit (length bs) k))
 
--- t after one more letter
-pub total-turn : (c : List ℕ) (i w t v : ℕ) → t ≡ total c i w → v ≡ bitXor t (getD c i 0 * bit i w) → v ≡ total c (i + 1) w
-unfolding total
-total-turn c i w t v e h = rw (add-one i) (h ∙ ap (λ (y : ℕ). bitXor y (getD c i 0 * bit i w)) e)
-
 -- an array that reads as a list, with one more
 snoc-read : (u xs : List ℕ) (x j : ℕ) → length xs ≡ j → j < length u → ((i : ℕ) → getD u i 0 ≡ getD xs i 0) → (i : ℕ) → getD (set u j x) i 0 ≡ getD (xs ++ (x ∷ [])) i 0
 snoc-read u xs x j e h same i =
@@ -50,7 +46,7 @@ snoc-read u xs x j e h same i =
     (λ q. rw q (getD-set-same u j x 0 h ∙ sym (getD-at xs x [] 0 j e)))
     (λ ne. getD-set-other u j i x 0 ne ∙ same i ∙ by-cases (decLt i j)
     (λ l. sym (List·getD-append xs (x ∷ []) 0 i (omega arith)))
-    (λ l. past xs i (omega arith) ∙ sym (past (xs ++ (x ∷ [])) i (omega (arith, length-append xs (x ∷ []))))))
+    (λ l. List·getD-eq-default xs 0 {n = i} (omega arith) ∙ sym (List·getD-eq-default (xs ++ (x ∷ [])) 0 {n = i} (omega (arith, length-append xs (x ∷ []))))))
 
 -- after f factors: m basics, the next unit, the basics as letters, the words
 pub record Walked (a : List ℕ) (f m unit : ℕ) (basics words : List ℕ) : Type 0 where
@@ -61,11 +57,6 @@ pub record Walked (a : List ℕ) (f m unit : ℕ) (basics words : List ℕ) : Ty
   pub words-size : length words ≡ 16
   pub placed : Placed (unitsAt a f) basics
   pub read : (i : ℕ) → getD words i 0 ≡ getD (wordsTo a f) i 0
-
-zeros : (k i : ℕ) → _≡_ {A = ℕ} (getD (replicate k 0) i 0) 0
-zeros zero i = refl
-zeros (suc k) zero = refl
-zeros (suc k) (suc i) = zeros k i
 
 pub walked-none : (a : List ℕ) → Walked a 0 0 1 (replicate 16 0) (replicate 16 0)
 unfolding unitsBefore unitsAt wordsTo

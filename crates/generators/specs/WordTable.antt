@@ -1,34 +1,21 @@
 -- The array of the reduced words of standard columns, and what it is for the plan of the columns.
-use mathlib.Core.Path.{_≡_, refl, _∙_}
-use mathlib.Core.List.{List, [], _∷_}
-use Prim.Native.Nat.{ℕ, zero, suc, _-_, _≤_}
+use mathlib.Core.Path.{_≡_}
+use mathlib.Core.List.{List}
+use Prim.Native.Nat.{ℕ, _-_}
 use native.Mathlib.Omega.{arith}
 use lib.ListN.{length, getD}
 use Rattle.regular.specs.Runs.{Runs}
-use Rattle.regular.specs.Words.{Reduced}
 use Rattle.standard.specs.Form.{StandardFor}
 use Rattle.words.specs.Generators.{Generators}
-use Rattle.words.specs.WordList.{wordsTo, listed}
-use Rattle.words.specs.ReducedUnique.{generators-reduced, generators-generators}
+use Rattle.words.specs.WordList.{wordsTo}
+use Rattle.words.specs.ReducedUnique.{generators-generators}
 
 -- the words of n standard columns a in 16 places, by rising last letter, zeros after them
 pub record WordTable (n : ℕ) (a r : List ℕ) : Type 0 where
   pub places : length r ≡ 16
   pub word : (i : ℕ) → getD r i 0 ≡ getD (wordsTo a n) i 0
 
--- past its end a list reads as 0
-pub past : (xs : List ℕ) (i : ℕ) → length xs ≤ i → getD xs i 0 ≡ 0
-past [] i h = refl
-past (x ∷ xs) zero h = absurd (omega arith)
-past (x ∷ xs) (suc i) h = past xs i (omega arith)
-
 -- for columns in standard form with the runs of s
 module _ (n m : ℕ) (s : Runs) (a r : List ℕ) (st : StandardFor n m s a) (t : WordTable n a r) where
-  pub table-reduced : Reduced n (n - m) s r
-  table-reduced = generators-reduced n m s a r st (λ i h. t .word i)
-
   pub table-generators : Generators n (n - m) s r
   table-generators = generators-generators n m s a r st (λ i h. t .word i)
-
-  pub table-unused : (i : ℕ) → n - m ≤ i → getD r i 0 ≡ 0
-  table-unused i h = let L = listed a n in t .word i ∙ past (wordsTo a n) i (omega (arith, L .size, L .count, st .form .units))

@@ -1,6 +1,6 @@
 -- Laws of digits and of exclusive-or: digit by digit, associative, extensional. Parity has its own file.
 use mathlib.Core.Path.{_≡_, refl, sym, ap, ap₂, _∙_}
-use Prim.Native.Nat.{ℕ, zero, suc, _+_, _*_, _/_, _%_, _^_, _≤_, _<_}
+use Prim.Native.Nat.{ℕ, zero, suc, _+_, _-_, _*_, _/_, _%_, _^_, _≤_, _<_}
 use native.Mathlib.Nat.{mod-eq-of-lt, zero-div, two-pow-succ}
 use native.Mathlib.Omega.{arith}
 use native.Mathlib.Numerals.{one-add}
@@ -8,7 +8,7 @@ use native.Mathlib.Decide.{ℕ-discrete, decLe}
 use mathlib.Core.Logic.{by-cases}
 use lib.Bits.{bitXor, differ, xor-step, xor-shr, xor-lt, xor-self, xor-zero-l, xor-zero-r, xor-comm, xor-shifted, shifted-half, shifted-even}
 use lib.Arith.{bin-ind, digits-div}
-use lib.Pow.{shr-shr, pow-lt, split}
+use lib.Pow.{shr-shr, pow-lt, pow-pos, split}
 use Rattle.gf2.specs.Digits.{bit}
 
 -- the digit of a sum without carry
@@ -85,9 +85,20 @@ bit-top n d r h l = ap (λ (y : ℕ). y % 2) (digits-div d {m = 2 ^ n} {r = r} l
 pub bit-over : (n r : ℕ) → r < 2 ^ n → bit n r ≡ 0
 bit-over n r l = let e : r ≡ 0 * 2 ^ n + r = omega arith in ap (λ (y : ℕ). bit n y) e ∙ bit-top n 0 r (omega arith) l
 
--- exclusive-or of two digits
-mod-sum : (a b : ℕ) → (a % 2 + b % 2) % 2 ≡ (a + b) % 2
+-- every digit of 2^k - 1 is set
+pub bit-full : (k i : ℕ) → i < k → bit i (2 ^ k - 1) ≡ 1
+bit-full zero i h = absurd (omega arith)
+bit-full (suc k) zero h = omega (arith, pow-pos k)
+bit-full (suc k) (suc i) h =
+    let e : (2 ^ suc k - 1) / 2 ≡ 2 ^ k - 1 = omega (arith, pow-pos k) in
+    bit-suc i (2 ^ suc k - 1) ∙ ap (λ (x : ℕ). bit i x) e ∙ bit-full k i (omega arith)
+
+-- sums of digits; exclusive-or of two digits
+pub mod-sum : (a b : ℕ) → (a % 2 + b % 2) % 2 ≡ (a + b) % 2
 mod-sum a b = omega arith
+
+pub sum-cancel : (a b c : ℕ) → a < 2 → b < 2 → (a + c) % 2 ≡ (b + c) % 2 → a ≡ b
+sum-cancel a b c ha hb e = omega arith
 
 pub xor-digit : (x y : ℕ) → x < 2 → y < 2 → bitXor x y ≡ (x + y) % 2
 xor-digit x y hx hy = sym (mod-eq-of-lt (xor-lt 1 x y hx hy)) ∙ xor-low x y ∙ mod-sum x y

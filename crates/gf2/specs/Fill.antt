@@ -1,13 +1,13 @@
--- A list that is filled from its start: place k holds F k below j, and what it held at entry from there on. Nothing filled, one place more,
--- all that is past; a table of zeros at entry is zero past what is filled.
-use mathlib.Core.Path.{_≡_, refl, sym, ap, _∙_}
+-- A list that is filled from its start: place k holds F k below j, and what it held at entry from there on. Nothing filled, one place more;
+-- a table of zeros at entry is zero past what is filled.
+use mathlib.Core.Path.{_≡_, refl, _∙_}
 use mathlib.Core.Logic.{by-cases}
 use mathlib.Core.List.{List}
 use Prim.Native.Nat.{ℕ, zero, suc, _+_, _-_, _<_, _≤_}
 use native.Mathlib.Omega.{arith}
 use native.Mathlib.Decide.{ℕ-discrete}
-use lib.ListN.{length, getD, set, drop, replicate, length-set, length-drop}
-use lib.Seq.{getD-set-same, getD-set-other, getD-drop, ext-getD}
+use lib.ListN.{length, getD, set, replicate, length-set}
+use lib.Seq.{getD-set-same, getD-set-other}
 
 -- t was `entry`, and holds F k at each place k below j
 pub record Filled (F : ℕ → ℕ) (entry : List ℕ) (j : ℕ) (t : List ℕ) : Type 0 where
@@ -28,13 +28,6 @@ module _ (F : ℕ → ℕ) (entry : List ℕ) (j : ℕ) (t : List ℕ) (f : Fill
             (λ ne. getD-set-other t j k v 0 ne ∙ f .done k (omega arith));
         kept = λ k l. getD-set-other t j k v 0 (λ p. omega arith) ∙ f .kept k (omega arith);
       }
-
-  -- what is past stays
-  pub fill-past : drop j t ≡ drop j entry
-  fill-past =
-      ext-getD 0 (drop j t) (drop j entry)
-      (length-drop j t ∙ ap (λ (k : ℕ). k - j) (f .size) ∙ sym (length-drop j entry))
-      (λ i h. getD-drop j t i 0 ∙ f .kept (j + i) (omega arith) ∙ sym (getD-drop j entry i 0))
 
 -- a table of zeros
 pub zeros : (n k : ℕ) → _≡_ {A = ℕ} (getD (replicate n 0) k 0) 0

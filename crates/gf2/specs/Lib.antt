@@ -1,8 +1,11 @@
 pub mod Digits
+pub mod Truth
 pub mod Answers
 pub mod DigitLaws
 pub mod Parity
+pub mod Vec
 pub mod Members
+pub mod Places
 pub mod Lists
 pub mod Counts
 pub mod Letters

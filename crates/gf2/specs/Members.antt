@@ -51,7 +51,7 @@ pigeon (x ∷ xs) ys d sub len z h =
     (omega (arith, without-length x ys m)) z (without-keeps x ys m z ne h)))
 
 -- a list repeats a number, or not
-in-or-not : (x : ℕ) (ys : List ℕ) → In x ys ⊎ (In x ys → ⊥)
+pub in-or-not : (x : ℕ) (ys : List ℕ) → In x ys ⊎ (In x ys → ⊥)
 in-or-not x [] = inr (λ m. m)
 in-or-not x (y ∷ ys) = by-cases (ℕ-discrete x y) (λ e. inl (inl e)) (λ ne. ⊎-elim (λ m. inl (inr m)) (λ h. inr (λ m. ⊎-elim ne h m)) (in-or-not x ys))
 

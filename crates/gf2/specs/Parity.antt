@@ -1,6 +1,6 @@
 -- Laws of the parity of shared digits: by digits, symmetric, linear in each argument, and every linear function of k digits is one.
-use mathlib.Core.Path.{_≡_, refl, sym, ap, ap₂, _∙_}
-use Prim.Native.Nat.{ℕ, zero, suc, _+_, _-_, _*_, _/_, _%_, _^_, _≤_, _<_, min}
+use mathlib.Core.Path.{_≡_, sym, ap, ap₂, _∙_}
+use Prim.Native.Nat.{ℕ, zero, suc, _+_, _-_, _*_, _/_, _%_, _^_, _<_, min}
 use native.Mathlib.Nat.{min-zero, two-pow-succ, mod-lt}
 use native.Mathlib.Omega.{arith}
 use lib.Bits.{bitXor, bitAnd, and-step, and-comm, and-zero-l, xor-shifted, shifted-half, shifted-even}
@@ -8,7 +8,7 @@ use lib.Arith.{lt-one, bin-ind}
 use lib.Pow.{pow-pos, pow-lt, split}
 use lib.Count.{ones, ones-step}
 use Rattle.gf2.specs.Digits.{bit, odd}
-use Rattle.gf2.specs.DigitLaws.{xor-low, xor-half, same-by-half, bit-suc, bit-ext, bit-top}
+use Rattle.gf2.specs.DigitLaws.{xor-low, xor-half, same-by-half, bit-suc, bit-ext, bit-top, mod-sum}
 
 pub and-low : (a b : ℕ) → bitAnd a b % 2 ≡ min (a % 2) (b % 2)
 and-low a b = omega (arith, and-step a b)
@@ -38,9 +38,6 @@ pub odd-zero-r : (j : ℕ) → odd j 0 ≡ 0
 odd-zero-r j = odd-comm j 0 ∙ odd-zero-l j
 
 -- linear in each argument
-mod-sum : (a b : ℕ) → (a % 2 + b % 2) % 2 ≡ (a + b) % 2
-mod-sum a b = omega arith
-
 sum-4 : (x y p q : ℕ) → ((x + y) % 2 + (p + q) % 2) % 2 ≡ ((x + p) % 2 + (y + q) % 2) % 2
 sum-4 x y p q =
     mod-sum (x + y) (p + q) ∙ ap (λ (n : ℕ). n % 2) (omega arith) ∙ sym (mod-sum (x + p) (y + q))

@@ -15,6 +15,7 @@ use lib.Dec.{ltb}
 use lib.ListN.{length, getD, set, replicate, length-set, List·getD-eq-default}
 use lib.Pow.{pow-mono, shl-exact}
 use lib.Seq.{getD-set-same, getD-set-other}
+use Rattle.gf2.specs.Fill.{zeros}
 use Rattle.counts.specs.Models.{PatternModel, DistanceModel, firstLength}
 use Rattle.counts.specs.Resolutions.{first-none, first-here, first-kept}
 use Rattle.counts.specs.Tally.{tally, tally-start, tally-hit, tally-miss, tally-le, tally-same, tally-none}
@@ -22,12 +23,6 @@ use Rattle.regular.specs.Pattern.{Better, ofLength}
 use Rattle.regular.specs.Words.{letters, total}
 use Rattle.standard.specs.Total.{total-more, total-next}
 use Rattle.patterns.specs.Steps.{Doubled, Products, LetterCounts, FromOne}
-
--- a table of zeros
-zeros : (k i : ℕ) → getD {A = ℕ} (replicate k 0) i 0 ≡ 0
-zeros zero i = refl
-zeros (suc k) zero = refl
-zeros (suc k) (suc i) = zeros k i
 
 -- the second half
 module _ (half w : ℕ) (t : List ℕ) where

@@ -2,18 +2,22 @@
 // same contract. include/planner.h says what each one means.
 ghost use mathlib.Core.Path.{_≡_};
 ghost use Prim.Native.Nat.{_+_, _-_, _^_, _<_};
-ghost use lib.ListN.{getD};
+ghost use lib.ListN.{length, getD};
 ghost use Rattle.regular.specs.Runs.{runsOf, switched};
 ghost use Rattle.regular.specs.Words.{Generated, Reduced};
 ghost use Rattle.regular.specs.Columns.{planOf, Listed, RunsOfPlan, StandardColumns};
 ghost use Rattle.regular.specs.Pattern.{Pattern, Resolution, Distances, LessAberration};
 ghost use Rattle.regular.specs.Refusals.{wordsFaults, runsFaults, columnsFaults, LentFault, either, Lowest, Chooses, Fills};
 ghost use Rattle.regular.specs.Comparisons.{Compares, Checks, Witness, Told, comparedNumber, checkedNumber};
-ghost use Rattle.smallest_form.specs.Answers.{ReducesInto};
-ghost use Rattle.catalogue.specs.Lists.{ListsBytes};
-use catalogue::CatalogueAnswer;
+ghost use Rattle.regular.specs.PlanLists.{plansFaults};
+ghost use Rattle.regular.specs.Same.{moved};
+ghost use Rattle.regular.specs.SmallestAnswers.{ReducesInto, ReducesEach};
+ghost use Rattle.regular.specs.Catalogues.{ListsBytes};
+use regular::CatalogueAnswer;
 use regular::Checked;
 use regular::Compared;
+use regular::MaskAnswer;
+use regular::PlaceAnswer;
 
 // Words to columns.
 #[no_mangle]
@@ -261,19 +265,53 @@ pub extern "C" fn plan_compare_runs(
     compared_number(comparison::compare_runs(n, g, first, second, witness))
 }
 
-// The smallest form of the plan of a list of columns, and the names of a witness to it.
+// The smallest form of the plan of a list of columns, the names of a witness to it, and its first place in a list of plans.
 #[no_mangle]
 pub extern "C" fn plan_smallest_of_columns(
     n: usize,
     g: usize,
     columns: &[u8],
+    list: &[u8],
     smallest: &mut [u8],
     witness: &mut [u8],
-) -> u8
-    ensures { λ r. ⌜ ReducesInto (either (either (columnsFaults n g (now (columns .entry))) (LentFault n (now (smallest .entry)))) (LentFault n (now (witness .entry)))) n (n - g)
-        (planOf n (n - g) (now (columns .entry))) (now (smallest .entry)) (now (smallest .exit)) (now (witness .entry)) (now (witness .exit)) r ⌝ }
+) -> PlaceAnswer
+    ensures { λ r. ⌜ ReducesInto (either (either (columnsFaults n g (now (columns .entry))) (either (plansFaults n g (now (list .entry))) (LentFault n (now (smallest .entry))))) (LentFault n (now (witness .entry))))
+        n (n - g) (planOf n (n - g) (now (columns .entry))) (λ mask. mask ≡ 0) (now (list .entry)) (now (smallest .entry)) (now (smallest .exit)) (now (witness .entry)) (now (witness .exit))
+        (r .number) 0 (r .place) ⌝ }
 {
-    smallest_form::smallest_of_columns(n, g, columns, smallest, witness)
+    smallest_form::smallest_of_columns(n, g, columns, list, smallest, witness)
+}
+
+// The smallest form of the plan of a run table, the names and the mask of a witness to it, and its first place in a list of plans.
+#[no_mangle]
+pub extern "C" fn plan_smallest_of_runs(
+    n: usize,
+    g: usize,
+    runs: &[u16],
+    list: &[u8],
+    smallest: &mut [u8],
+    witness: &mut [u8],
+) -> MaskAnswer
+    ensures { λ r. ⌜ ReducesInto (either (either (runsFaults n g (now (runs .entry))) (either (plansFaults n g (now (list .entry))) (LentFault n (now (smallest .entry))))) (LentFault n (now (witness .entry))))
+        n (n - g) (runsOf (now (runs .entry))) (λ mask. mask ≡ moved (now (witness .exit)) n (getD (now (runs .entry)) 0 0)) (now (list .entry)) (now (smallest .entry)) (now (smallest .exit))
+        (now (witness .entry)) (now (witness .exit)) (r .number) (r .mask) (r .place) ⌝ }
+{
+    smallest_form::list_smallest_of_runs(n, g, runs, list, smallest, witness)
+}
+
+// The smallest forms of several plans one after another, and the names of a witness to each.
+#[no_mangle]
+pub extern "C" fn plan_smallest_of_plans(
+    n: usize,
+    g: usize,
+    plans: &[u8],
+    forms: &mut [u8],
+    witnesses: &mut [u8],
+) -> u8
+    ensures { λ r. ⌜ ReducesEach (either (either (plansFaults n g (now (plans .entry))) (LentFault (length (now (plans .entry))) (now (forms .entry)))) (LentFault (length (now (plans .entry))) (now (witnesses .entry))))
+        n (n - g) (now (plans .entry)) (now (forms .entry)) (now (forms .exit)) (now (witnesses .entry)) (now (witnesses .exit)) r ⌝ }
+{
+    smallest_form::smallest_of_plans(n, g, plans, forms, witnesses)
 }
 
 // The catalogue, n columns an entry, one after another.

@@ -10,7 +10,7 @@ use lib.ListN.{length, getD}
 use native.Mathlib.Decide.{decLe}
 use native.Mathlib.Omega.{arith}
 use Rattle.regular.specs.Refusals.{factors}
-use Rattle.catalogue.specs.Lists.{ListsBytes}
+use Rattle.regular.specs.Catalogues.{ListsBytes}
 use Rattle.plans.specs.Lines.{Digit, Number, one, two, SizeLine, DigitIs, SpaceIs, Part, Parsed}
 
 clash : false ≡ true → ⊥

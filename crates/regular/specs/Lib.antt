@@ -6,6 +6,9 @@ pub mod Pattern
 pub mod Designs
 pub mod Refusals
 pub mod RefusalLaws
+pub mod PlanLists
 pub mod Same
 pub mod Smallest
+pub mod SmallestAnswers
+pub mod Catalogues
 pub mod Comparisons

@@ -9,6 +9,7 @@ use Rattle.gf2.specs.Members.{In, Different}
 use Rattle.regular.specs.Runs.{Runs, runsOf, Regular}
 use Rattle.regular.specs.Words.{Word, letters, Generated, Independent}
 use Rattle.regular.specs.Columns.{planOf, Spans}
+use Rattle.regular.specs.Smallest.{Catalogue}
 use Rattle.regular.specs.declared.Design.{Design}
 
 -- a word of fewer than r letters
@@ -21,6 +22,10 @@ pub record Short (n r : ℕ) (s : Runs) : Type 0 where
 pub data SizeFault (n g : ℕ) : ℕ → Type 0 where
   factors : (n < 1) ⊎ (16 < n) → SizeFault n g 1
   generators : (n ≤ g) ⊎ (7 < n - g) → SizeFault n g 2
+
+-- 3: the wanted resolution
+pub data ResolutionFault (r : ℕ) : ℕ → Type 0 where
+  outside : (r < 3) ⊎ (16 < r) → ResolutionFault r 3
 
 -- 4 to 7: a list of words
 pub data WordsFault (n g : ℕ) (ws : List ℕ) : ℕ → Type 0 where
@@ -53,13 +58,25 @@ pub data TableFault (n m : ℕ) (t : List ℕ) : ℕ → Type 0 where
   irregular : (Regular (runsOf t) → ⊥) → TableFault n m t 6
   short : Short n 3 (runsOf t) → TableFault n m t 7
 
+-- 7: a word shorter than the wanted resolution, where it is taken
+pub data WantedFault (n r : ℕ) (s : Runs) : ℕ → Type 0 where
+  short : Short n r s → WantedFault n r s 7
+
 -- 8: a lent result of fewer than k places
 pub data LentFault (k : ℕ) (out : List ℕ) : ℕ → Type 0 where
   few : length out < k → LentFault k out 8
 
+-- 9: the catalogue has more entries than there is room for; `room k` says that k entries have room
+pub data RoomFault (n m r : ℕ) (room : ℕ → Type 0) : ℕ → Type 0 where
+  more : (total : ℕ) (all : ℕ → List ℕ) → Catalogue n m r total all → (room total → ⊥) → RoomFault n m r room 9
+
 -- the faults of two arguments
 abbrev pub either : (ℕ → Type 0) → (ℕ → Type 0) → ℕ → Type 0
 either f h k = f k ⊎ h k
+
+-- the sizes and the wanted resolution
+abbrev pub sizeFaults : ℕ → ℕ → ℕ → ℕ → Type 0
+sizeFaults n g r = either (SizeFault n g) (ResolutionFault r)
 
 -- the faults of a plan given by words, by a run table, by a design record, by a list of columns
 abbrev pub wordsFaults : ℕ → ℕ → List ℕ → ℕ → Type 0

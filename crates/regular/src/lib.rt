@@ -38,6 +38,44 @@ pub struct Admitted {
     pub columns: [u8; 16],
 }
 
+// A refusal's number, 0 if accepted, the smallest form as a design record, the mask of the witness to it, and its first place in a lent list of
+// records, from 1, 0 if absent; blank and 0 if refused.
+pub struct SmallestAnswer {
+    pub number: u8,
+    pub mask: u16,
+    pub place: usize,
+    pub design: Design,
+}
+
+// A refusal's number, 0 if accepted, and the first place of a smallest form in a lent list, from 1, 0 if absent or refused.
+#[repr(C)]
+pub struct PlaceAnswer {
+    pub number: u8,
+    pub place: usize,
+}
+
+// .. and the mask of the witness to it, 0 if refused.
+#[repr(C)]
+pub struct MaskAnswer {
+    pub number: u8,
+    pub mask: u16,
+    pub place: usize,
+}
+
+// A refusal's number, 0 if accepted, and how many entries the lent list holds: none if refused by 1, 2 or 3.
+#[repr(C)]
+pub struct CatalogueAnswer {
+    pub number: u8,
+    pub count: usize,
+}
+
+// A refusal's number, 0 if accepted, and how many bytes the lent list holds: none if refused.
+#[repr(C)]
+pub struct BookAnswer {
+    pub number: u8,
+    pub count: usize,
+}
+
 // What a comparison of two plans finds: the same, with the mask of the witness; different, with the first length where the patterns differ, 0
 // if they agree; or the refusal's number.
 pub enum Compared {

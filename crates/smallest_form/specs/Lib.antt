@@ -1,3 +1,3 @@
-pub mod Answers
-pub mod Moving
-pub mod Settling
+pub mod Others
+pub mod Placed
+pub mod Each

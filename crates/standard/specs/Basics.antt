@@ -1,7 +1,7 @@
 -- The walk over the factors of a set of runs that is closed under exclusive-or: what holds after f of them.
 use mathlib.Core.Path.{_≡_, refl, sym, ap, ap₂, _∙_, subst}
 use mathlib.Core.Logic.{_⊎_, inl, inr, ⊎-elim, by-cases}
-use mathlib.Core.Bool.{Bool, true, false, _&&_}
+use mathlib.Core.Bool.{Bool, true, false}
 use mathlib.Core.List.{List, [], _∷_}
 use Prim.Native.Nat.{ℕ, zero, suc, _+_, _-_, _*_, _/_, _%_, _^_, _≤_, _<_}
 use native.Mathlib.Nat.{two-pow-succ, mod-eq-of-lt, mod-lt}
@@ -18,6 +18,7 @@ use Rattle.gf2.specs.Digits.{bit, odd, pick}
 use Rattle.gf2.specs.Lists.{some-or-all}
 use Rattle.gf2.specs.Members.{In}
 use Rattle.gf2.specs.Parity.{numberOf, number-lt, linear-is-odd, odd-keep, odd-fresh}
+use Rattle.gf2.specs.Truth.{and-both}
 use Rattle.standard.specs.Coordinates.{coord-lt, coord-xor}
 use Rattle.standard.specs.Model.{coordOf, fitsAll, firstFrom, firstFit, choose, basicsAt, columnAt}
 
@@ -25,18 +26,12 @@ use Rattle.standard.specs.Model.{coordOf, fitsAll, firstFrom, firstFit, 
 abbrev pub Fits : List ℕ → List ℕ → ℕ → ℕ → Type 0
 Fits bs u f k = (x : ℕ) → In x u → bit f x ≡ odd (coordOf bs x) k
 
-and-true : (a b : Bool) → a && b ≡ true → (a ≡ true) × (b ≡ true)
-and-true true true e = (refl, refl)
-and-true true false e = (refl, e)
-and-true false true e = (e, refl)
-and-true false false e = (e, e)
-
 pub fits-all : (bs u : List ℕ) (f k : ℕ) → fitsAll bs u f k ≡ true → Fits bs u f k
 unfolding fitsAll
 fits-all bs [] f k e x m = absurd m
 fits-all bs (y ∷ u) f k e x (inl p) =
-    rw p (eqb-true _ _ (and-true (eqb (bit f y) (odd (coordOf bs y) k)) (fitsAll bs u f k) e .0))
-fits-all bs (y ∷ u) f k e x (inr m) = fits-all bs u f k (and-true (eqb (bit f y) (odd (coordOf bs y) k)) (fitsAll bs u f k) e .1) x m
+    rw p (eqb-true _ _ (and-both (eqb (bit f y) (odd (coordOf bs y) k)) (fitsAll bs u f k) e .0))
+fits-all bs (y ∷ u) f k e x (inr m) = fits-all bs u f k (and-both (eqb (bit f y) (odd (coordOf bs y) k)) (fitsAll bs u f k) e .1) x m
 
 pub all-fits : (bs u : List ℕ) (f k : ℕ) → Fits bs u f k → fitsAll bs u f k ≡ true
 unfolding fitsAll
@@ -78,9 +73,6 @@ fits-keep bs u p f k h fit x m = fit x m ∙ sym (odd-keep (length bs) (bit p x)
 pub fits-fresh : (bs u : List ℕ) (f : ℕ) → Fits (f ∷ bs) u f (2 ^ length bs)
 unfolding coordOf
 fits-fresh bs u f x m = sym (odd-fresh (length bs) (bit f x) (coordOf bs x) (omega arith) (coord-lt bs x))
-
-low-digit : (d : ℕ) → d < 2 → (d ≡ 0 → ⊥) → d ≡ 1
-low-digit d h ne = omega arith
 
 module _ (u : List ℕ) (closed : (x y : ℕ) → In x u → In y u → In (bitXor x y) u) where
   -- f's level hangs on those of the basics: then some column fits

@@ -1,5 +1,5 @@
 -- Columns in standard form: the walk over the factors that gives the standard columns of a plan, as a property. Definitions only.
--- That they are the standard columns of document 01, and the only ones in this form, is proved in the crate words and in Unique.
+-- That they are the standard columns of document 01, and the only ones, is proved in the crate words (`form-standard`, `standard-columns-unique`).
 use Prim.Native.Nat.{ℕ, zero, suc, _+_, _^_, _≤_, _<_}
 use mathlib.Core.Path.{_≡_}
 use mathlib.Core.Bool.{Bool, true, false}

@@ -11,7 +11,7 @@ use lib.Pow.{pow-pos, mod-pow-add}
 use lib.ListN.{length, getD}
 use Rattle.gf2.specs.DigitLaws.{xor-assoc, pow-le-inv, xor-back}
 use Rattle.gf2.specs.Digits.{bit, odd}
-use Rattle.gf2.specs.Lists.{image, fewer, upto, upto-lt, upto-in, upto-length, upto-different, image-length, in-image, of-image, image-different, to-length, to-at}
+use Rattle.gf2.specs.Lists.{image, fewer, upto, upto-lt, upto-in, upto-length, upto-different, image-length, in-image, of-image, image-different, to-at}
 use Rattle.gf2.specs.Members.{In, Different}
 use Rattle.regular.specs.Columns.{runOf, planOf}
 use Rattle.regular.specs.Runs.{Table, runsOf, switched}
@@ -19,9 +19,6 @@ use Rattle.standard.specs.Basics.{After, next-is, after-is}
 use Rattle.standard.specs.Coordinates.{coord-lt}
 use Rattle.standard.specs.Model.{diffs, coordOf, basicsAt, columnAt, columnsTo, standard}
 use Rattle.standard.specs.Form.{unitsBefore, StandardForm, StandardFor}
-
-pub columns-length : (u : List ℕ) (n : ℕ) → length (columnsTo u n) ≡ n
-columns-length u n = to-length (columnAt u) n
 
 pub columns-at : (u : List ℕ) (n f : ℕ) → f < n → getD (columnsTo u n) f 0 ≡ columnAt u f
 columns-at u n f h = to-at (columnAt u) n f h
@@ -91,9 +88,6 @@ module _ (n : ℕ) (u : List ℕ) (s : Space n u) where
         let p = pow-le-inv (length (basicsAt u n)) m (omega (arith, basics-few n (omega arith))) in
         let q = pow-le-inv m (length (basicsAt u n)) (omega (arith, basics-many)) in
         omega arith
-
-    pub rank-below : (f : ℕ) → f ≤ n → length (basicsAt u f) ≤ m
-    rank-below f h = pow-le-inv (length (basicsAt u f)) m (omega (arith, basics-few f h))
 
     pub space-form : StandardForm n m cols
     space-form =

@@ -7,5 +7,5 @@ pub mod Basics
 pub mod FromTable
 pub mod FromColumns
 pub mod Units
-pub mod Unique
+pub mod NextColumn
 pub mod Plans

@@ -1,14 +1,15 @@
--- Laws of sums of columns: linear, by places; what some columns reach.
+-- Laws of sums of columns: linear, by places; what some columns reach; independent columns.
 use mathlib.Core.Path.{_≡_, refl, sym, ap, ap₂, _∙_, subst}
 use mathlib.Core.List.{List}
 use Prim.Native.Nat.{ℕ, zero, suc, _+_, _-_, _*_, _%_, _^_, _≤_, _<_}
+use native.Mathlib.Numerals.{add-one}
 use native.Mathlib.Omega.{arith}
 use lib.Bits.{bitXor, xor-self, xor-zero-l, xor-zero-r, xor-lt}
 use lib.Pow.{pow-pos, pow-lt, pow-mono}
 use lib.ListN.{getD}
-use Rattle.gf2.specs.DigitLaws.{bit-xor, low-bit, xor-4, bit-none, bit-top, bit-over}
+use Rattle.gf2.specs.DigitLaws.{bit-xor, low-bit, xor-4, bit-none, bit-top, bit-over, xor-none}
 use Rattle.gf2.specs.Digits.{bit}
-use Rattle.regular.specs.Words.{total}
+use Rattle.regular.specs.Words.{total, Independent}
 
 times-xor : (c d e : ℕ) → d < 2 → e < 2 → c * ((d + e) % 2) ≡ bitXor (c * d) (c * e)
 times-xor c zero e hd he =
@@ -104,3 +105,13 @@ module _ (c : List ℕ) (n : ℕ) where
 pub span-more : (c : List ℕ) (n y : ℕ) → InSpan c n y → InSpan c (suc n) y
 span-more c n y p =
     (p .0, (omega (arith, p .1 .0, pow-lt {i = n} {j = suc n} (omega arith)), total-more c n (suc n) (p .0) (omega arith) (p .1 .0) ∙ p .1 .1))
+
+-- independent columns: different choices, different sums
+pub independent-once : (r : ℕ) (t : List ℕ) → Independent r t → (i j : ℕ) → i < 2 ^ r → j < 2 ^ r → total t r i ≡ total t r j → i ≡ j
+independent-once r t ind i j hi hj e =
+    xor-none i j (ind (bitXor i j) (xor-lt r i j hi hj) (total-xor t r i j ∙ ap (λ (x : ℕ). bitXor x (total t r j)) e ∙ xor-self (total t r j)))
+
+-- one step of a loop that sums column by column
+pub total-turn : (c : List ℕ) (i w t v : ℕ) → t ≡ total c i w → v ≡ bitXor t (getD c i 0 * bit i w) → v ≡ total c (i + 1) w
+unfolding total
+total-turn c i w t v e h = rw (add-one i) (h ∙ ap (λ (y : ℕ). bitXor y (getD c i 0 * bit i w)) e)

@@ -39,6 +39,13 @@ unfolding spread
 spread-lt [] n h k = pow-pos n
 spread-lt (p ∷ bs) n h k = xor-lt n (spread bs k) (bit (length bs) k * 2 ^ p) (spread-lt bs n (λ q m. h q (inr m)) k) (digit-pow (bit (length bs) k) p n (omega arith) (h p (inl refl)))
 
+-- columns that agree have as many units
+pub units-same : (a b : List ℕ) (f : ℕ) → ((g : ℕ) → g < f → getD a g 0 ≡ getD b g 0) → unitsBefore a f ≡ unitsBefore b f
+unfolding unitsBefore
+units-same a b zero h = refl
+units-same a b (suc f) h =
+    ap₂ (λ (x k : ℕ). k + pick (eqb x (2 ^ k)) 1 0) (h f (omega arith)) (units-same a b f (λ g l. h g (omega arith)))
+
 -- every unit stands among the columns
 units-step : (a : List ℕ) (f i : ℕ) (t : Bool) → eqb (getD a f 0) (2 ^ unitsBefore a f) ≡ t → i < unitsBefore a f + pick t 1 0
     → (i < unitsBefore a f → (p : ℕ) × ((p < f) × (getD a p 0 ≡ 2 ^ i))) → (p : ℕ) × ((p < suc f) × (getD a p 0 ≡ 2 ^ i))
@@ -150,3 +157,7 @@ standard-spans n m a s v h =
         total-spread a n bs v (u .based) ∙ ap (λ (k : ℕ). v % 2 ^ k) e ∙ mod-eq-of-lt h,
       ),
     )
+
+-- columns of at most seven bits
+pub below-128 : (n m : ℕ) (c : List ℕ) → m ≤ 7 → Below n m c → (f : ℕ) → f < n → getD c f 0 < 128
+below-128 n m c h b f l = omega (arith, b f l, pow-mono {i = m} {j = 7} h)

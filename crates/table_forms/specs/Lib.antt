@@ -1,4 +1,3 @@
-pub mod Places
 pub mod Walk
 pub mod Turns
 pub mod Steps

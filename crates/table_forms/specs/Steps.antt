@@ -1,33 +1,31 @@
 -- The steps of the walk: its start, a factor that follows the basic factors, one more basic factor, and the runs that are refused.
 use mathlib.Core.Path.{_≡_, refl, sym, ap, ap₂, _∙_, subst}
-use mathlib.Core.Logic.{by-cases}
 use mathlib.Core.Bool.{Bool, true, false}
 use mathlib.Core.List.{List, [], _∷_}
-use Prim.Native.Nat.{ℕ, zero, suc, _+_, _*_, _^_, _<_, _≤_}
+use Prim.Native.Nat.{ℕ, _+_, _*_, _^_, _<_, _≤_}
 use native.Mathlib.Nat.{two-pow-succ}
-use native.Mathlib.Numerals.{add-one}
 use native.Mathlib.Omega.{arith}
-use native.Mathlib.Decide.{ℕ-discrete}
 use borrow.Author.Tests.{eq-eqb, ne-eqb}
 use lib.Bits.{bitXor}
 use lib.Dec.{eqb}
 use lib.Pow.{pow-lt, pow-mono, pow-pos}
 use lib.ListN.{length, getD, set, replicate, length-set}
-use lib.Seq.{getD-set-same, getD-set-other}
 use Rattle.gf2.specs.Digits.{bit, odd, pick}
 use Rattle.gf2.specs.DigitLaws.{bit-ext}
 use Rattle.gf2.specs.Lists.{image, image-length, in-image, of-image, fewer, upto, upto-lt, upto-length, upto-different}
 use Rattle.gf2.specs.Members.{In}
 use Rattle.gf2.specs.Parity.{odd-bit}
+use Rattle.gf2.specs.Places.{place-in, in-place}
+use Rattle.gf2.specs.Fill.{zeros}
 use Rattle.regular.specs.Runs.{Table}
 use Rattle.standard.specs.Basics.{Fits, Onto, fits-all, fits-keep, fits-fresh, onto-next}
 use Rattle.standard.specs.Coordinates.{coord-lt}
 use Rattle.standard.specs.Form.{unitsBefore}
 use Rattle.standard.specs.FromTable.{table-space, diffs-count}
 use Rattle.standard.specs.Model.{diffs, coordOf, fitsAll}
+use Rattle.standard.specs.NextColumn.{set-column, set-next, set-unused, units-more}
 use Rattle.table_forms.specs.declared.Walked.{Walked}
-use Rattle.table_forms.specs.Places.{place-in, in-place}
-use Rattle.table_forms.specs.Turns.{zeros-at, never, half-small}
+use Rattle.table_forms.specs.Turns.{never, half-small}
 use Rattle.table_forms.specs.Walk.{diffAt, Held, Latest, Alone, Read, Candidate, FitsAt, Fitting, Extended, Walk, Followed, Grown, Reached}
 
 -- the differences are those of the places
@@ -51,37 +49,6 @@ fits-places bs t coords f k held h x m =
     let p = diff-at t x m in
     ap (bit f) (p .1 .1) ∙ h (p .0) (p .1 .0) ∙ ap (λ (c : ℕ). odd c k) (held (p .0) (p .1 .0) ∙ ap (coordOf bs) (sym (p .1 .1)))
 
--- columns with one more
-module _ (a : List ℕ) (f v : ℕ) where
-  pub units-set : (g : ℕ) → g ≤ f → unitsBefore (set a f v) g ≡ unitsBefore a g
-  unfolding unitsBefore
-  units-set zero h = refl
-  units-set (suc g) h =
-      ap₂ (λ (x k : ℕ). k + pick (eqb x (2 ^ k)) 1 0) (getD-set-other a f g v 0 (λ e. omega arith)) (units-set g (omega arith))
-
-  pub units-more : (k : ℕ) → f < length a → unitsBefore a f ≡ k → unitsBefore (set a f v) (f + 1) ≡ k + pick (eqb v (2 ^ k)) 1 0
-  unfolding unitsBefore
-  units-more k h e =
-      ap (unitsBefore (set a f v)) (add-one f)
-      ∙ ap₂ (λ (x l : ℕ). l + pick (eqb x (2 ^ l)) 1 0) (getD-set-same a f v 0 h) (units-set f (omega arith) ∙ e)
-
-  pub next-more : f < length a → ((g : ℕ) → g < f → getD a g 0 ≤ 2 ^ unitsBefore a g) → v ≤ 2 ^ unitsBefore a f
-      → (g : ℕ) → g < f + 1 → getD (set a f v) g 0 ≤ 2 ^ unitsBefore (set a f v) g
-  next-more h next l g s =
-      by-cases (ℕ-discrete g f)
-      (λ e. rw (e, getD-set-same a f v 0 h, units-set f (omega arith)) l)
-      (λ ne. rw (getD-set-other a f g v 0 ne, units-set g (omega arith)) (next g (omega arith)))
-
-  pub unused-more : ((g : ℕ) → f ≤ g → getD a g 0 ≡ 0) → (g : ℕ) → f + 1 ≤ g → getD (set a f v) g 0 ≡ 0
-  unused-more h g s = getD-set-other a f g v 0 (λ e. omega arith) ∙ h g (omega arith)
-
-  pub fits-more : (bs u : List ℕ) → f < length a → ((g : ℕ) → g < f → (getD a g 0 < 2 ^ length bs) × Fits bs u g (getD a g 0)) → v < 2 ^ length bs → Fits bs u f v
-      → (g : ℕ) → g < f + 1 → (getD (set a f v) g 0 < 2 ^ length bs) × Fits bs u g (getD (set a f v) g 0)
-  fits-more bs u h fits l fit g s =
-      by-cases (ℕ-discrete g f)
-      (λ e. rw (e, getD-set-same a f v 0 h) (l, fit))
-      (λ ne. rw (getD-set-other a f g v 0 ne) (fits g (omega arith)))
-
 -- the walk before the first factor
 pub walk-start : (m : ℕ) (t place : List ℕ) → Latest (length t) (length t) (replicate 128 0) place
     → Walk m t 0 (record { ok = true; columns = replicate 16 0; basics = 0; half = 1; coords = replicate 128 0; place = place })
@@ -92,14 +59,14 @@ walk-start m t place l =
       basics = refl;
       few = omega arith;
       half = refl;
-      held = λ i h. zeros-at 128 i;
+      held = λ i h. zeros 128 i;
       latest = l;
       onto = λ n tab j h. (0, (table-space n m t tab .zero-in, omega arith));
       size = refl;
       fits = λ g h. absurd (omega arith);
       next = λ g h. absurd (omega arith);
       units = refl;
-      unused = λ g h. zeros-at 16 g;
+      unused = λ g h. zeros 16 g;
     }
 
 -- a factor that follows the basic factors
@@ -119,10 +86,10 @@ walk-follow m t f k w hf s l fit =
       latest = s .latest;
       onto = s .onto;
       size = length-set a f k ∙ s .size;
-      fits = fits-more a f k bs (diffs t) h (s .fits) l fit;
-      next = next-more a f k h (s .next) (omega (arith, ap (λ (u : ℕ). 2 ^ u) (s .units)));
-      units = units-more a f k (length bs) h (s .units) ∙ omega arith;
-      unused = unused-more a f k (s .unused);
+      fits = set-column a f k h (λ g x. (x < 2 ^ length bs) × Fits bs (diffs t) g x) (l, fit) (s .fits);
+      next = set-next a f k h (omega (arith, ap (λ (u : ℕ). 2 ^ u) (s .units))) (s .next);
+      units = units-more a f k h (length bs) (s .units) ∙ omega arith;
+      unused = set-unused a f k (s .unused);
     }
 
 -- one more basic factor
@@ -148,12 +115,12 @@ walk-grow m t f k w coords place hf s ke few x l onto =
       latest = l;
       onto = onto;
       size = length-set a f k ∙ s .size;
-      fits = fits-more a f k (f ∷ bs) (diffs t) h
-          (λ g q. let r = s .fits g q in (omega (arith, r .0), fits-keep bs (diffs t) f g (getD a g 0) (r .0) (r .1)))
-          (omega arith) (subst (λ (c : ℕ). Fits (f ∷ bs) (diffs t) f c) (sym v) (fits-fresh bs (diffs t) f));
-      next = next-more a f k h (s .next) (omega (arith, ap (λ (u : ℕ). 2 ^ u) (s .units)));
-      units = units-more a f k (length bs) h (s .units) ∙ omega arith;
-      unused = unused-more a f k (s .unused);
+      fits = set-column a f k h (λ g x. (x < 2 ^ length (f ∷ bs)) × Fits (f ∷ bs) (diffs t) g x)
+          (omega arith, subst (λ (c : ℕ). Fits (f ∷ bs) (diffs t) f c) (sym v) (fits-fresh bs (diffs t) f))
+          (λ g q. let r = s .fits g q in (omega (arith, r .0), fits-keep bs (diffs t) f g (getD a g 0) (r .0) (r .1)));
+      next = set-next a f k h (omega (arith, ap (λ (u : ℕ). 2 ^ u) (s .units))) (s .next);
+      units = units-more a f k h (length bs) (s .units) ∙ omega arith;
+      unused = set-unused a f k (s .unused);
     }
 
 -- the candidate is the only column that can fit

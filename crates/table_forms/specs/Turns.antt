@@ -7,25 +7,22 @@ use Prim.Native.Nat.{ℕ, _+_, _*_, _^_, _<_, _≤_}
 use native.Mathlib.Nat.{two-pow-succ}
 use native.Mathlib.Numerals.{add-one}
 use native.Mathlib.Omega.{arith}
-use native.Mathlib.Decide.{ℕ-discrete, decLt}
+use native.Mathlib.Decide.{ℕ-discrete}
 use lib.Arith.{digits-lt}
 use lib.Pow.{pow-pos, pow-mono}
-use lib.ListN.{length, getD, set, replicate, getD-replicate, length-replicate, List·getD-eq-default, length-set}
+use lib.ListN.{length, getD, set, replicate, length-set}
 use lib.Seq.{getD-set-same, getD-set-other}
 use Rattle.gf2.specs.Digits.{bit}
 use Rattle.gf2.specs.DigitLaws.{low-bit, bit-top}
+use Rattle.gf2.specs.Fill.{zeros}
 use Rattle.table_forms.specs.Walk.{diffAt, Latest, Read, Extended}
-
--- a list of zeros holds 0, and so does the place past its end
-pub zeros-at : (n i : ℕ) → _≡_ {A = ℕ} (getD (replicate n 0) i 0) 0
-zeros-at n i = by-cases (decLt i n) (λ h. getD-replicate n i 0 0 h) (λ h. List·getD-eq-default (replicate n 0) 0 {n = i} (omega (arith, length-replicate {A = ℕ} n 0)))
 
 -- the last run with given levels
 pub latest-none : (count : ℕ) (coords : List ℕ) → 0 < count → Latest count 0 coords (replicate 128 0)
 latest-none count coords h =
     record {
       size = refl;
-      within = λ c. omega (arith, zeros-at 128 c);
+      within = λ c. omega (arith, zeros 128 c);
       same = λ i l. absurd (omega arith);
       last = λ i l. absurd (omega arith);
     }

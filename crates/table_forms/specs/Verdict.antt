@@ -11,6 +11,8 @@ use lib.ListN.{length, getD, replicate}
 use Rattle.gf2.specs.DigitLaws.{xor-assoc, xor-back, xor-4, pow-le-inv}
 use Rattle.gf2.specs.Lists.{fewer, upto, upto-in, upto-length, listTo, to-length, of-to, to-different}
 use Rattle.gf2.specs.Members.{In, pigeon}
+use Rattle.gf2.specs.Places.{place-in, in-place, different-once, once-different}
+use Rattle.gf2.specs.Fill.{zeros}
 use Rattle.regular.specs.Columns.{runOf, planOf}
 use Rattle.regular.specs.Runs.{Agree, Table, runsOf, switched}
 use Rattle.standard.specs.Coordinates.{coord-lt}
@@ -19,9 +21,7 @@ use Rattle.standard.specs.FromTable.{run-is}
 use Rattle.standard.specs.Model.{coordOf}
 use Rattle.standard.specs.Runs.{run-xor}
 use Rattle.table_forms.specs.declared.Walked.{Walked}
-use Rattle.table_forms.specs.Places.{place-in, in-place, different-once, once-different}
 use Rattle.table_forms.specs.Steps.{at-diff}
-use Rattle.table_forms.specs.Turns.{zeros-at}
 use Rattle.table_forms.specs.Walk.{diffAt, Walk, AllLast}
 
 -- g reads the levels of a difference, and the columns a give the difference back
@@ -142,5 +142,5 @@ verdict-refused n m t h =
       possible = λ e. let z : _≡_ {A = ℕ} 0 1 = cc in absurd (omega arith);
       impossible = λ e tab. h tab;
       standard = λ e. let z : _≡_ {A = ℕ} 0 1 = cc in absurd (omega arith);
-      unused = λ f l. zeros-at 16 f;
+      unused = λ f l. zeros 16 f;
     }

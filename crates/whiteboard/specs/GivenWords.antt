@@ -1,8 +1,8 @@
 -- Independent words generate the words of their plan: the words are their products, each product once.
-use mathlib.Core.Path.{_≡_, refl, sym, ap, ap₂, subst, _∙_}
+use mathlib.Core.Path.{_≡_, sym, ap, subst, _∙_}
 use mathlib.Core.Logic.{by-cases}
 use mathlib.Core.List.{List}
-use Prim.Native.Nat.{ℕ, zero, suc, _+_, _-_, _*_, _^_, _≤_, _<_}
+use Prim.Native.Nat.{ℕ, suc, _-_, _^_, _≤_, _<_}
 use native.Mathlib.Omega.{arith}
 use native.Mathlib.Decide.{ℕ-discrete}
 use lib.ListN.{getD}
@@ -10,17 +10,17 @@ use Rattle.gf2.specs.Digits.{odd}
 use Rattle.gf2.specs.Lists.{image, upto, upto-lt, upto-length, upto-different, image-length, of-image, image-different}
 use Rattle.gf2.specs.Members.{In, Different, pigeon}
 use Rattle.gf2.specs.Parity.{odd-zero-l}
-use Rattle.regular.specs.Columns.{runOf}
 use Rattle.regular.specs.Runs.{Runs}
 use Rattle.regular.specs.Words.{Word, Generated, Independent, total}
 use Rattle.standard.specs.Form.{StandardFor}
 use Rattle.standard.specs.Runs.{total-lt, odd-total}
-use Rattle.words.specs.FromWords.{words-standard}
+use Rattle.standard.specs.Total.{independent-once}
+use Rattle.words.specs.FromWords.{words-standard, run-none}
 use Rattle.words.specs.Generators.{Generators}
 use Rattle.words.specs.Model.{wordColumns, pivotsAt}
 use Rattle.words.specs.ReducedWords.{words-generators}
 use Rattle.words.specs.WordList.{wordsTo}
-use Rattle.counts.specs.WordCounts.{products-once, word-count}
+use Rattle.counts.specs.WordCounts.{word-count}
 
 -- g independent words of at most 16 factors
 pub record Given (n g : ℕ) (ws : List ℕ) : Type 0 where
@@ -33,13 +33,6 @@ pub record Given (n g : ℕ) (ws : List ℕ) : Type 0 where
 abbrev pub wordList : ℕ → List ℕ → List ℕ
 wordList g ws = image (λ t. total ws g (suc t)) (upto (2 ^ g - 1))
 
--- a run that meets each word evenly meets each product evenly
-even-run : (ws : List ℕ) (g x : ℕ) → ((i : ℕ) → i < g → odd x (getD ws i 0) ≡ 0) → runOf ws g x ≡ 0
-unfolding runOf
-even-run ws zero x h = refl
-even-run ws (suc g) x h =
-    ap₂ (λ (a b : ℕ). a + b * 2 ^ g) (even-run ws g x (λ i l. h i (omega arith))) (h g (omega arith)) ∙ omega arith
-
 module _ (n g : ℕ) (ws : List ℕ) (given : Given n g ws) where
   abbrev plan : Runs
   plan = Generated n g ws
@@ -49,7 +42,7 @@ module _ (n g : ℕ) (ws : List ℕ) (given : Given n g ws) where
   given-standard = words-standard n g ws (given .few) (given .less) (given .within) (given .independent)
 
   even : (x t : ℕ) → plan x → odd x (total ws g t) ≡ 0
-  even x t p = odd-total ws g x t ∙ ap (λ (r : ℕ). odd r t) (even-run ws g x (p .even)) ∙ odd-zero-l t
+  even x t p = odd-total ws g x t ∙ ap (λ (r : ℕ). odd r t) (run-none ws g x (p .even)) ∙ odd-zero-l t
 
   -- a product is a word of the plan, and each is another
   product-word : (t : ℕ) → 0 < t → t < 2 ^ g → Word n plan (total ws g t)
@@ -64,7 +57,7 @@ module _ (n g : ℕ) (ws : List ℕ) (given : Given n g ws) where
       image-different (λ t. total ws g (suc t)) (upto (2 ^ g - 1)) (upto-different (2 ^ g - 1))
       (λ x y p q e. omega (
         arith,
-        products-once g ws (given .independent) (suc x) (suc y)
+        independent-once g ws (given .independent) (suc x) (suc y)
             (omega (arith, upto-lt (2 ^ g - 1) x p)) (omega (arith, upto-lt (2 ^ g - 1) y q)) e,
       ))
 

@@ -1,17 +1,18 @@
 -- A row that passes its tests is true: one law for each kind of row, and so for a whole table.
-use mathlib.Core.Path.{_≡_, sym, subst, _∙_}
+use mathlib.Core.Path.{_≡_, sym, ap, subst, _∙_}
 use mathlib.Core.Bool.{true}
 use mathlib.Core.List.{List, [], _∷_}
-use Prim.Native.Nat.{ℕ, zero, suc, _-_, _^_, _≤_}
+use Prim.Native.Nat.{ℕ, zero, suc, _+_, _-_, _^_, _≤_}
 use native.Mathlib.Omega.{arith}
 use borrow.Author.Tests.{eqb-true, eqb-false, leb-true, ltb-true, not-true}
 use lib.Bits.{bitXor}
 use lib.Dec.{eqb, ltb}
-use lib.ListN.{getD}
+use lib.ListN.{getD, length}
 use lib.Pow.{pow-pos}
 use Rattle.gf2.specs.Counts.{Count}
 use Rattle.regular.specs.Columns.{planOf, runOf, Listed}
 use Rattle.regular.specs.Comparisons.{Differ}
+use Rattle.regular.specs.Smallest.{Catalogue}
 use Rattle.regular.specs.Pattern.{Pattern, Resolution, Distances, ofLength}
 use Rattle.regular.specs.Words.{Word, Generated, letters, total}
 use Rattle.standard.specs.Runs.{run-zero}
@@ -22,10 +23,12 @@ use Rattle.counts.specs.Models.{products, firstLength}
 use Rattle.counts.specs.Resolutions.{resolution-of-pattern}
 use Rattle.counts.specs.Tally.{tally}
 use Rattle.counts.specs.WordCounts.{length-count}
+use Rattle.catalogue_laws.specs.Listing.{model-catalogue}
+use Rattle.catalogue_laws.specs.Model.{entries}
 use Rattle.whiteboard.specs.GivenWords.{Given, given-standard, given-generators}
 use Rattle.whiteboard.specs.Products.{given-multiply, Multiply, multiply-same, product, ofLetters}
-use Rattle.whiteboard.specs.Rows.{Row, RunsRow, WordsRow, DifferentRow, Says, given, counts, tests, AllTrue, allPass}
-use Rattle.whiteboard.specs.Tests.{every, Passed, passed, below-at, agree-at, only-zero}
+use Rattle.whiteboard.specs.Rows.{Row, RunsRow, WordsRow, DifferentRow, CatalogueRow, Says, given, counts, tests, AllTrue, allPass}
+use Rattle.whiteboard.specs.Tests.{every, Passed, passed, below-at, agree-at, only-zero, alike, alike-is}
 
 -- columns, their runs and distance counts
 runs-true : (n m : ℕ) (c t d : List ℕ) → Passed (tests (Row.runs n m c t d)) → RunsRow n m c t d
@@ -93,11 +96,21 @@ different-true n g vs ws p l v w e =
       second = second;
     }
 
+-- a catalogue: the model lists it at each resolution
+catalogue-true : (n g low high : ℕ) (es : List (List ℕ)) → Passed (tests (Row.catalogue n g low high es)) → CatalogueRow n g low high es
+catalogue-true n g low high es e r a b =
+    let same : entries n (n - g) (low + (r - low)) ≡ es =
+    alike-is (alike eqb) (alike-is eqb eqb-true) (entries n (n - g) (low + (r - low))) es
+    (below-at (λ i. alike (alike eqb) (entries n (n - g) (low + i)) es) (suc high - low) (e .0) (r - low) (omega arith)) in
+    let at : low + (r - low) ≡ r = omega arith in
+    subst (λ (l : List (List ℕ)). Catalogue n (n - g) r (length l) (λ i. getD l i [])) (ap (entries n (n - g)) (sym at) ∙ same) (model-catalogue n (n - g) r)
+
 -- any row, and a table
 row-true : (r : Row) → Passed (tests r) → Says r
 row-true (Row.runs n m c t d) e = runs-true n m c t d e
 row-true (Row.words n g ws c p r) e = words-true n g ws c p r e
 row-true (Row.different n g vs ws p l v w) e = different-true n g vs ws p l v w e
+row-true (Row.catalogue n g low high es) e = catalogue-true n g low high es e
 
 pub table-true : (rs : List Row) → allPass rs ≡ true → AllTrue rs
 table-true [] e = tt

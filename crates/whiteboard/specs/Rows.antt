@@ -2,20 +2,22 @@
 -- That a row which passes is true is proved in RowLaws. A further kind of example is a constructor here, with its meaning, its test and its law.
 use mathlib.Core.Bool.{Bool, not, true}
 use mathlib.Core.List.{List, [], _∷_}
-use Prim.Native.Nat.{ℕ, suc, _-_, _^_}
+use Prim.Native.Nat.{ℕ, suc, _+_, _-_, _^_, _≤_}
 use lib.Dec.{eqb, leb, ltb}
-use lib.ListN.{getD}
+use lib.ListN.{getD, length}
 use Rattle.regular.specs.Columns.{planOf, runOf, Listed, StandardColumns}
 use Rattle.regular.specs.Comparisons.{Differ}
 use Rattle.regular.specs.Pattern.{Pattern, Resolution, Distances, ofLength}
 use Rattle.regular.specs.Runs.{Runs}
 use Rattle.regular.specs.Same.{Same}
+use Rattle.regular.specs.Smallest.{Catalogue}
 use Rattle.regular.specs.Words.{Generated, letters, total}
 use Rattle.words.specs.Model.{wordColumns, pivotsAt}
 use Rattle.counts.specs.Models.{products, firstLength}
 use Rattle.counts.specs.Tally.{tally}
+use Rattle.catalogue_laws.specs.Model.{entries}
 use Rattle.whiteboard.specs.Products.{Multiply, product, ofLetters}
-use Rattle.whiteboard.specs.Tests.{below, agree, onlyZero, every}
+use Rattle.whiteboard.specs.Tests.{below, agree, onlyZero, every, alike}
 
 pub data Row : Type 0 where
   -- n columns of m bits, their runs, and the distance counts
@@ -24,6 +26,8 @@ pub data Row : Type 0 where
   words : (n g : ℕ) (words columns pattern : List ℕ) (resolution : ℕ) → Row
   -- two lists of g words, the pattern that both plans have, and what their words of l letters multiply to
   different : (n g : ℕ) (words others pattern : List ℕ) (l product another : ℕ) → Row
+  -- n factors, g generators, and the entries of the catalogue, the same at each resolution from low to high
+  catalogue : (n g low high : ℕ) (entries : List (List ℕ)) → Row
 
 -- the runs and distance counts of columns
 pub record RunsRow (n m : ℕ) (c t d : List ℕ) : Type 0 where
@@ -43,11 +47,16 @@ pub record DifferentRow (n : ℕ) (s t : Runs) (l v w : ℕ) : Type 0 where
   pub first : Multiply n s l v
   pub second : Multiply n t l w
 
+-- the catalogue at each resolution from low to high has exactly these entries, in this order
+abbrev pub CatalogueRow : ℕ → ℕ → ℕ → ℕ → List (List ℕ) → Type 0
+CatalogueRow n g low high es = (r : ℕ) → low ≤ r → r ≤ high → Catalogue n (n - g) r (length es) (λ i. getD es i [])
+
 -- what a row says
 abbrev pub Says : Row → Type 0
 Says (Row.runs n m c t d) = RunsRow n m c t d
 Says (Row.words n g ws c p r) = WordsRow n g (Generated n g ws) c p r
 Says (Row.different n g vs ws p l v w) = DifferentRow n (Generated n g vs) (Generated n g ws) l v w
+Says (Row.catalogue n g low high es) = CatalogueRow n g low high es
 
 -- tests of g words: they are independent, and of at most 16 factors
 abbrev pub given : ℕ → ℕ → List ℕ → List Bool
@@ -79,6 +88,7 @@ tests (Row.different n g vs ws p l v w) =
     ∷ eqb (product (ofLetters g ws l)) w
     ∷ not (eqb (letters v) (letters w))
     ∷ []
+tests (Row.catalogue n g low high es) = below (λ i. alike (alike eqb) (entries n (n - g) (low + i)) es) (suc high - low) ∷ []
 
 -- every row of a table is true; every row passes
 abbrev pub AllTrue : List Row → Type 0

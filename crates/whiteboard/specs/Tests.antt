@@ -1,6 +1,6 @@
--- Tests that compute, and what a passed test says: every test of a list, every number below k, no value 0 but the first, the members of a list
--- that pass.
-use mathlib.Core.Path.{_≡_, refl, sym, ap, subst, _∙_}
+-- Tests that compute, and what a passed test says: every test of a list, every number below k, no value 0 but the first, lists alike, the members
+-- of a list that pass.
+use mathlib.Core.Path.{_≡_, refl, sym, ap, ap₂, subst, _∙_}
 use mathlib.Core.Logic.{_⊎_, inl, inr, ⊎-elim, by-cases}
 use mathlib.Core.Bool.{Bool, true, false, _&&_, false≢true}
 use mathlib.Core.List.{List, [], _∷_}
@@ -10,6 +10,7 @@ use native.Mathlib.Decide.{ℕ-discrete}
 use borrow.Author.Tests.{eqb-true, ltb-true}
 use lib.Dec.{eqb, ltb}
 use Rattle.gf2.specs.Members.{In, Different}
+use Rattle.gf2.specs.Truth.{and-both}
 use Rattle.standard.specs.Model.{choose}
 
 -- every test of a list passes
@@ -21,13 +22,9 @@ abbrev pub Passed : List Bool → Type 0
 Passed [] = Unit {0}
 Passed (b ∷ bs) = (b ≡ true) × Passed bs
 
-both : (a b : Bool) → a && b ≡ true → (a ≡ true) × (b ≡ true)
-both true b e = (refl, e)
-both false b e = absurd (false≢true e)
-
 pub passed : (bs : List Bool) → every bs ≡ true → Passed bs
 passed [] e = tt
-passed (b ∷ bs) e = let r = both b (every bs) e in (r .0, passed bs (r .1))
+passed (b ∷ bs) e = let r = and-both b (every bs) e in (r .0, passed bs (r .1))
 
 -- the test passes at every number below k
 unfoldable pub below : (ℕ → Bool) → ℕ → Bool
@@ -38,7 +35,7 @@ pub below-at : (t : ℕ → Bool) (k : ℕ) → below t k ≡ true → (i : ℕ)
 unfolding below
 below-at t zero e i h = absurd (omega arith)
 below-at t (suc k) e i h =
-    let b = both (t k) (below t k) e in
+    let b = and-both (t k) (below t k) e in
     by-cases (ℕ-discrete i k) (λ q. ap t q ∙ b .0) (λ ne. below-at t k (b .1) i (omega arith))
 
 -- u and v have the same values below k
@@ -55,6 +52,20 @@ onlyZero v k = below (λ i. ltb 0 (v (suc i))) (k - 1)
 pub only-zero : (v : ℕ → ℕ) (k : ℕ) → onlyZero v k ≡ true → (i : ℕ) → i < k → v i ≡ 0 → i ≡ 0
 only-zero v k e zero h z = refl
 only-zero v k e (suc i) h z = absurd (omega (arith, ltb-true 0 (v (suc i)) (below-at (λ j. ltb 0 (v (suc j))) (k - 1) e i (omega arith))))
+
+-- two lists have the same members, by a test of these, in the same order
+unfoldable pub alike : {A : Type 0} → (A → A → Bool) → List A → List A → Bool
+alike t [] [] = true
+alike t [] (y ∷ ys) = false
+alike t (x ∷ xs) [] = false
+alike t (x ∷ xs) (y ∷ ys) = t x y && alike t xs ys
+
+pub alike-is : {A : Type 0} (t : A → A → Bool) → ((x y : A) → t x y ≡ true → x ≡ y) → (xs ys : List A) → alike t xs ys ≡ true → xs ≡ ys
+unfolding alike
+alike-is t sound [] [] e = refl
+alike-is t sound [] (y ∷ ys) e = absurd (false≢true e)
+alike-is t sound (x ∷ xs) [] e = absurd (false≢true e)
+alike-is t sound (x ∷ xs) (y ∷ ys) e = let b = and-both (t x y) (alike t xs ys) e in ap₂ _∷_ (sound x y (b .0)) (alike-is t sound xs ys (b .1))
 
 -- the members of a list that pass
 unfoldable pub those : (ℕ → Bool) → List ℕ → List ℕ

@@ -1,21 +1,18 @@
--- The names of a claimed witness: n of them that are a renaming, read one after another against the names seen so far; and a run renamed factor
--- by factor.
-use mathlib.Core.Path.{_≡_, refl, sym, ap, ap₂, _∙_, subst}
+-- The names of a claimed witness: n of them that are a renaming, read one after another against the names seen so far.
+use mathlib.Core.Path.{_≡_, sym, ap, ap₂, _∙_, subst}
 use mathlib.Core.Logic.{by-cases}
 use mathlib.Core.List.{List}
-use Prim.Native.Nat.{ℕ, zero, suc, _+_, _*_, _%_, _^_, _≤_, _<_}
+use Prim.Native.Nat.{ℕ, _+_, _*_, _%_, _^_, _≤_, _<_}
 use native.Mathlib.Omega.{arith}
-use native.Mathlib.Numerals.{add-one}
 use native.Mathlib.Decide.{ℕ-discrete}
 use borrow.Author.Count.{below-more}
 use lib.Bits.{bitXor}
 use lib.ListN.{length, getD}
-use lib.Pow.{pow-mono, shl-exact}
+use lib.Pow.{shl-exact}
 use Rattle.gf2.specs.Digits.{bit}
 use Rattle.gf2.specs.DigitLaws.{bit-xor, bit-none}
-use Rattle.regular.specs.Same.{moved, Renaming}
+use Rattle.regular.specs.Same.{Renaming}
 use Rattle.isomorphism_laws.specs.Put.{mark-own, mark-other}
-use Rattle.isomorphism_laws.specs.Renamings.{moved-lt}
 
 -- n names, each of the n factors being used once
 pub record Named (n : ℕ) (p : List ℕ) : Type 0 where
@@ -84,35 +81,6 @@ used-all n p f seen e l s = record {
   renaming = record { within = λ g h. s .within g (omega arith); once = λ g h j k q. s .once g h (omega arith) (omega arith) q };
 }
 
--- a run renamed factor by factor: no factor, one more, and never more than the whole
-pub moved-none : (p : List ℕ) (x : ℕ) → moved p 0 x ≡ 0
-unfolding moved
-moved-none p x = refl
-
-moved-more : (p : List ℕ) (f x : ℕ) → moved p (f + 1) x ≡ moved p f x + bit f x * 2 ^ getD p f 0
-unfolding moved
-moved-more p f x = ap (λ (k : ℕ). moved p k x) (add-one f)
-
-moved-most : (p : List ℕ) (x n f : ℕ) → f ≤ n → moved p f x ≤ moved p n x
-unfolding moved
-moved-most p x zero f h = let e : f ≡ 0 = omega arith in rw e (omega arith)
-moved-most p x (suc n) f h = by-cases (ℕ-discrete f (suc n)) (λ e. rw e (omega arith)) (λ ne. omega (arith, moved-most p x n f (omega arith)))
-
--- a level shifted to a place of 16 bits loses nothing
-shift-fits : (b name : ℕ) → b < 2 → name < 16 → b * 2 ^ name % 65536 ≡ b * 2 ^ name
-shift-fits b name h l = shl-exact 1 name 16 h (omega arith)
-
 -- the bit that a name has in `seen`
 pub mark-fits : (name : ℕ) → name < 16 → 1 * 2 ^ name % 65536 ≡ 2 ^ name
-mark-fits name l = shift-fits 1 name (omega arith) l ∙ omega arith
-
--- the level b of factor f added at its name, in 16 bits
-module _ (n : ℕ) (p : List ℕ) (f x : ℕ) (h : n ≤ 16) (w : Named n p) (l : f < n) (y b name : ℕ) (e : y ≡ moved p f x) (eb : b ≡ bit f x) (en : name ≡ getD p f 0) where
-  pub moved-step : y + b * 2 ^ name % 65536 ≡ moved p (f + 1) x
-  moved-step =
-      ap (λ (k : ℕ). y + k) (shift-fits b name (omega arith) (omega (arith, w .renaming .within f l)))
-      ∙ ap₂ (λ (a k : ℕ). a + k) e (ap₂ (λ (a k : ℕ). a * 2 ^ k) eb en)
-      ∙ sym (moved-more p f x)
-
-  pub moved-fits : y + b * 2 ^ name % 65536 < 65536
-  moved-fits = omega (arith, moved-step, moved-most p x n (f + 1) (omega arith), moved-lt n p (w .renaming) x, pow-mono {i = n} {j = 16} h)
+mark-fits name l = shl-exact 1 name 16 (omega arith) (omega arith) ∙ omega arith

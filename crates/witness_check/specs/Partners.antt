@@ -11,10 +11,10 @@ use Rattle.gf2.specs.Answers.{Tells, tells-yes}
 use Rattle.gf2.specs.DigitLaws.{xor-back}
 use Rattle.gf2.specs.Lists.{image, image-length, of-image, image-different}
 use Rattle.gf2.specs.Members.{In, Different, pigeon}
+use Rattle.gf2.specs.Places.{place-in, in-place}
 use Rattle.regular.specs.Runs.{runsOf}
 use Rattle.regular.specs.Same.{moved, Renaming, Carries, Within}
 use Rattle.isomorphism_laws.specs.Renamings.{moved-once}
-use Rattle.table_forms.specs.Places.{place-in, in-place}
 
 -- the run x renamed and switched
 abbrev pub reached : ℕ → List ℕ → ℕ → ℕ → ℕ

@@ -69,11 +69,6 @@ times-none x d e = rw e (omega arith)
 pub times-one : (x d : ℕ) → d ≡ 1 → x * d ≡ x
 times-one x d e = rw e (omega arith)
 
--- the sum of columns, letter by letter
-pub total-turn : (c : List ℕ) (g w t v : ℕ) → t ≡ total c g w → v ≡ bitXor t (getD c g 0 * bit g w) → v ≡ total c (g + 1) w
-unfolding total
-total-turn c g w t v e h = rw (add-one g) (h ∙ ap (λ (y : ℕ). bitXor y (getD c g 0 * bit g w)) e)
-
 -- the elimination, word by word
 module _ (n i : ℕ) (ws piv : List ℕ) (r : ℕ) (P : Pivots n i ws piv) (hw : getD ws i 0 < 2 ^ n) (re : r ≡ reduced piv n (getD ws i 0)) where
   pub place-lt : (r ≡ 0 → ⊥) → lastOf n r < n

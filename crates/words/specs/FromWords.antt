@@ -55,15 +55,6 @@ free-start : (piv : List ℕ) → freeBefore piv 0 ≡ 0
 unfolding freeBefore
 free-start piv = refl
 
-pick-le : (t : Bool) → pick t 1 0 ≤ 1
-pick-le true = omega arith
-pick-le false = omega arith
-
-free-le : (piv : List ℕ) (k : ℕ) → freeBefore piv k ≤ k
-unfolding freeBefore
-free-le piv zero = omega arith
-free-le piv (suc k) = omega (arith, free-le piv k, pick-le (eqb (getD piv k 0) 0))
-
 pub free-length : (piv : List ℕ) (n : ℕ) → length (freeAt piv n) ≡ freeBefore piv n
 unfolding freeAt freeBefore
 free-length piv zero = refl
@@ -195,7 +186,7 @@ module _ (n : ℕ) (piv : List ℕ) (lasts : Lasts n piv) where
         sym (mod-eq-of-lt hx) ∙ run-is a (coordOf (freeAt piv n) x) x n (λ g l. fits-all n (omega arith) g l x (inl refl))
 
 -- a list of words that are all even in x has only even sums
-run-none : (ws : List ℕ) (k x : ℕ) → ((i : ℕ) → i < k → odd x (getD ws i 0) ≡ 0) → runOf ws k x ≡ 0
+pub run-none : (ws : List ℕ) (k x : ℕ) → ((i : ℕ) → i < k → odd x (getD ws i 0) ≡ 0) → runOf ws k x ≡ 0
 unfolding runOf
 run-none ws zero x h = refl
 run-none ws (suc k) x h = ap₂ (λ (r d : ℕ). r + d * 2 ^ k) (run-none ws k x (λ i l. h i (omega arith))) (h k (omega arith)) ∙ omega arith

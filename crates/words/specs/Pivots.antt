@@ -307,10 +307,3 @@ eliminates n g ws hn hw ind zero h = pivots-none n ws hn
 eliminates n g ws hn hw ind (suc i) h =
     let P = eliminates n g ws hn hw ind i (omega arith) in
     pivots-more n i ws (pivotsAt ws n i) P (hw i h) (empty-word n g i ws (pivotsAt ws n i) h P (hw i h) ind)
-
--- and if no word reduces to nothing, the words are independent
-pub goes-through : (n g : ℕ) (ws : List ℕ) → n ≤ 16 → ((i : ℕ) → i < g → getD ws i 0 < 2 ^ n) → ((i : ℕ) → i < g → reduced (pivotsAt ws n i) n (getD ws i 0) ≡ 0 → ⊥) → (i : ℕ) → i ≤ g → Pivots n i ws (pivotsAt ws n i)
-unfolding pivotsAt
-goes-through n g ws hn hw ok zero h = pivots-none n ws hn
-goes-through n g ws hn hw ok (suc i) h =
-    pivots-more n i ws (pivotsAt ws n i) (goes-through n g ws hn hw ok i (omega arith)) (hw i h) (ok i h)

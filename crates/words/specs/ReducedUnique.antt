@@ -145,10 +145,6 @@ module _ (n g : ℕ) (s : Runs) (ws : List ℕ) (gen : Generators n g s ws) (red
         (λ e. last-bit f (getD ws i 0) (subst (λ (d : ℕ). Last f (getD ws d 0)) (sym e) p) ∙ sym (last-bit f (getD vs i 0) (subst (λ (d : ℕ). Last f (getD vs d 0)) (sym e) q)))
         (λ ne. red .apart i j f h l ne p ∙ sym (other .apart i j f h l ne q)))
 
--- the reduced words of a plan are the words of its standard columns
-pub reduced-standard : (n m : ℕ) (s : Runs) (a vs : List ℕ) → StandardFor n m s a → Reduced n (n - m) s vs → (i : ℕ) → i < n - m → getD (wordsTo a n) i 0 ≡ getD vs i 0
-reduced-standard n m s a vs st r = reduced-unique n (n - m) s (wordsTo a n) (words-generators n m s a st) (reduced-words n m s a st) vs r
-
 -- only the first g places count
 module _ (n g : ℕ) (s : Runs) (ws vs : List ℕ) (same : (i : ℕ) → i < g → getD ws i 0 ≡ getD vs i 0) where
   to-ws : (i f : ℕ) → i < g → Last f (getD vs i 0) → Last f (getD ws i 0)

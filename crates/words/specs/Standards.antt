@@ -2,16 +2,14 @@
 use mathlib.Core.Path.{_≡_, refl, sym, ap, ap₂, _∙_, subst}
 use mathlib.Core.Logic.{inl, inr, ⊎-elim, by-cases}
 use mathlib.Core.List.{List, [], _∷_}
-use Prim.Native.Nat.{ℕ, zero, suc, _+_, _*_, _^_, _≤_, _<_}
+use Prim.Native.Nat.{ℕ, zero, suc, _*_, _^_, _≤_, _<_}
 use native.Mathlib.Omega.{arith}
 use native.Mathlib.Decide.{ℕ-discrete}
 use borrow.Author.Tests.{ne-eqb}
 use lib.Bits.{bitXor}
-use lib.Dec.{eqb}
 use lib.ListN.{getD}
 use Rattle.gf2.specs.Counts.{Count, count-unique, count-same}
 use Rattle.gf2.specs.DigitLaws.{xor-none}
-use Rattle.gf2.specs.Digits.{pick}
 use Rattle.regular.specs.Columns.{Basic, StandardColumns, Spans, planOf}
 use Rattle.regular.specs.Runs.{Runs}
 use Rattle.regular.specs.Words.{total}
@@ -21,7 +19,7 @@ use Rattle.standard.specs.Model.{standard, runTable}
 use Rattle.standard.specs.Plans.{word-cancels}
 use Rattle.standard.specs.Runs.{run-cols}
 use Rattle.standard.specs.Total.{total-cols, total-more, total-unit, total-xor}
-use Rattle.standard.specs.Units.{spread, spread-lt, unitsAt, unitary, based-lt, units-next, standard-below}
+use Rattle.standard.specs.Units.{spread, spread-lt, unitsAt, unitary, based-lt, units-next, standard-below, units-same}
 use Rattle.words.specs.Switches.{agree-sym, agree-trans, word-agree}
 use Rattle.words.specs.ToWords.{wordAt, basic-last-of-none, other-last-of-one}
 
@@ -120,19 +118,13 @@ module _ (n m : ℕ) (s : Runs) (a c : List ℕ) (st : StandardFor n m s a) (sc 
   standard-columns-unique f h = same-below n (omega arith) f h
 
 -- the form is one of the first n columns
-units-cols : (a c : List ℕ) (f : ℕ) → ((g : ℕ) → g < f → getD a g 0 ≡ getD c g 0) → unitsBefore a f ≡ unitsBefore c f
-unfolding unitsBefore
-units-cols a c zero h = refl
-units-cols a c (suc f) h =
-    ap₂ (λ (x k : ℕ). k + pick (eqb x (2 ^ k)) 1 0) (h f (omega arith)) (units-cols a c f (λ g l. h g (omega arith)))
-
 pub form-cols : (n m : ℕ) (a c : List ℕ) → StandardForm n m a → ((f : ℕ) → f < n → getD a f 0 ≡ getD c f 0) → StandardForm n m c
 form-cols n m a c s e =
     record {
       next = λ f h.
-          let u = ap (λ (k : ℕ). 2 ^ k) (units-cols a c f (λ g l. e g (omega arith))) in
+          let u = ap (λ (k : ℕ). 2 ^ k) (units-same a c f (λ g l. e g (omega arith))) in
           omega (arith, e f h, s .next f h);
-      units = sym (units-cols a c n e) ∙ s .units;
+      units = sym (units-same a c n e) ∙ s .units;
     }
 
 -- standard columns of rank m have standard form

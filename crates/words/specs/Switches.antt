@@ -2,13 +2,13 @@
 -- move their first run.
 use mathlib.Core.Path.{_≡_, sym, ap, subst, _∙_}
 use mathlib.Core.List.{List}
-use Prim.Native.Nat.{ℕ, _+_, _%_, _<_}
+use Prim.Native.Nat.{ℕ}
 use native.Mathlib.Omega.{arith}
 use lib.Bits.{bitXor, xor-zero-r}
 use lib.Count.{ones}
 use lib.ListN.{getD}
 use Rattle.gf2.specs.Counts.{count-same, count-image}
-use Rattle.gf2.specs.DigitLaws.{xor-back}
+use Rattle.gf2.specs.DigitLaws.{xor-back, sum-cancel}
 use Rattle.gf2.specs.Digits.{odd}
 use Rattle.gf2.specs.Parity.{odd-lin-l, odd-lt}
 use Rattle.regular.specs.Pattern.{Pattern, Resolution, Distances, ofLength}
@@ -73,16 +73,13 @@ module _ (n : ℕ) (s t : Runs) (a : Agree s t) where
 pub switched-twice : (mask : ℕ) (s : Runs) → Agree (switched mask (switched mask s)) s
 switched-twice mask s = record { into = λ x p. subst s (xor-back x mask) p; onto = λ x p. subst s (sym (xor-back x mask)) p }
 
-cancel : (a b c : ℕ) → a < 2 → b < 2 → (a + c) % 2 ≡ (b + c) % 2 → a ≡ b
-cancel a b c ha hb e = omega arith
-
 -- switching keeps the words
 pub word-switched : (n mask : ℕ) (s : Runs) (w : ℕ) → Word n s w → Word n (switched mask s) w
 word-switched n mask s w h =
     record {
       some = h .some;
       within = h .within;
-      constant = λ x y p q. cancel (odd x w) (odd y w) (odd mask w) (odd-lt x w) (odd-lt y w)
+      constant = λ x y p q. sum-cancel (odd x w) (odd y w) (odd mask w) (odd-lt x w) (odd-lt y w)
           (sym (odd-lin-l x mask w) ∙ h .constant (bitXor x mask) (bitXor y mask) p q ∙ odd-lin-l y mask w);
     }
 

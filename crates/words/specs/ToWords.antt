@@ -15,18 +15,18 @@ use lib.Arith.{digits-div}
 use lib.Pow.{pow-pos, pow-lt, pow-mono, split}
 use lib.ListN.{getD}
 use Rattle.gf2.specs.DigitLaws.{xor-back}
-use Rattle.gf2.specs.Digits.{odd, pick}
+use Rattle.gf2.specs.Digits.{pick}
 use Rattle.gf2.specs.Lists.{listTo, to-at}
-use Rattle.regular.specs.Columns.{runOf, planOf}
+use Rattle.regular.specs.Columns.{planOf}
 use Rattle.regular.specs.Words.{total, Word, Generated}
 use Rattle.standard.specs.Coordinates.{coord-lt}
 use Rattle.standard.specs.Model.{coordOf}
 use Rattle.standard.specs.Form.{unitsBefore, StandardForm}
 use Rattle.standard.specs.Plans.{word-cancels, cancels-word}
 use Rattle.standard.specs.Units.{spread, spread-lt, units-mono, units-next, standard-below, unitsAt, unitary, total-spread, based-lt}
-use Rattle.standard.specs.Runs.{run-lt, total-lt, run-cols}
+use Rattle.standard.specs.Runs.{total-lt, run-cols}
 use Rattle.standard.specs.Total.{total-cols, total-low, total-next, total-more}
-use Rattle.words.specs.FromWords.{wc-at, free-length, run-even, run-of-free}
+use Rattle.words.specs.FromWords.{wc-at, free-length, run-of-free}
 use Rattle.words.specs.Model.{freeBefore, freeAt, wordColumns}
 use Rattle.words.specs.Pivots.{Lasts, last-lt}
 
@@ -101,15 +101,7 @@ module _ (n m : ℕ) (a : List ℕ) (s : StandardForm n m a) where
   pub columns-words-columns : (f : ℕ) → f < n → getD (wordColumns (wordsOf a n) n) f 0 ≡ getD a f 0
   columns-words-columns f h = same-to n (omega arith) f h
 
-  -- the words generate the plan of the columns
-  pub words-onto : (x : ℕ) → planOf n m a x → Generated n n (wordsOf a n) x
-  words-onto x p =
-      let e : x ≡ runOf (wordColumns piv n) n (p .0) = p .1 .1 ∙ sym (run-cols (wordColumns piv n) a n (p .0) columns-words-columns) in
-      record {
-        within = subst (λ (y : ℕ). y < 2 ^ n) (sym (p .1 .1)) (run-lt a n (p .0));
-        even = λ i l. ap (λ (y : ℕ). odd y (getD piv i 0)) e ∙ run-even n piv words-lasts (p .0) i l;
-      }
-
+  -- a run that meets every word evenly is one of the plan
   pub words-into : (x : ℕ) → Generated n n (wordsOf a n) x → planOf n m a x
   words-into x q =
       let c = coordOf (freeAt piv n) x in (

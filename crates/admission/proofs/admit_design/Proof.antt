@@ -3,14 +3,44 @@ use native.Mathlib.Omega.{arith}
 use borrow.Author.Needs.{needs}
 use Rattle.admission.proofs.admit_design.Statement.{statement}
 use Rattle.admission.proofs.admit_design.Tie as tie
-use Rattle.admission.specs.Admitting.{answered, array-admission, size-refusal, plan-refusal, record-0, size-0, record-4, record-5}
+use Rattle.admission.specs.Admitting.{answered, array-admission, size-refusal, record-0, record-4, record-5, plan-answered}
 use borrow.Author.Tests.{not-true, not-false}
-use Rattle.regular.specs.Refusals.{designFaults, RecordFault, either, ColumnsFault}
+use Rattle.regular.specs.Refusals.{designFaults, RecordFault, either, ColumnsFault, Lowest}
 use Rattle.regular.specs.Columns.{planOf}
-use Prim.Native.Nat.{_-_}
-use mathlib.Core.Path.{sym, _∙_, refl}
+use Prim.Native.Nat.{_-_, ℕ, _<_, _≤_}
+use mathlib.Core.Path.{sym, _∙_, refl, _≡_}
 use mathlib.Core.Logic.{⊎-elim, inl, inr}
 use Rattle.regular.specs.RefusalLaws.{record-least, lowest-first, columns-least}
+use Rattle.regular.specs.Runs.{Runs}
+use Rattle.regular.specs.Sizes.{Size}
+
+-- the faults of the record and of its columns, and the plan
+abbrev fault : tie.Start → ℕ → Type 0
+fault s = RecordFault (s .args .n) (s .args .n - s .args .g) (s .args .design)
+
+abbrev columns-fault : tie.Start → ℕ → Type 0
+columns-fault s = ColumnsFault (s .args .n) (s .args .n - s .args .g) (s .args .design .columns)
+
+abbrev plan : tie.Start → Runs
+plan s = planOf (s .args .n) (s .args .n - s .args .g) (s .args .design .columns)
+
+-- a fault of the record comes before those of its columns
+first : (s : tie.Start) (k : ℕ) → 0 < k → k ≤ 5 → Lowest (fault s) k → Lowest (either (fault s) (columns-fault s)) k
+first s k h m l =
+    lowest-first (fault s) (columns-fault s) k h l (λ i f. omega (arith, columns-least (s .args .n) (s .args .n - s .args .g) (s .args .design .columns) i f))
+
+-- the tests passed, each with what it says: the sizes, the counts of the record
+sized : (c : tie.Else1) → Size (c .before .before .args .n) (c .before .before .args .g)
+sized c = c .before .size-number .ensures .1 (c .if1 .left)
+
+abbrev sizes-at : tie.Else3 → tie.Else1
+sizes-at c = c .before .before .before .before
+
+factors : (c : tie.Else3) → sizes-at c .before .before .args .design .factors ≡ sizes-at c .before .before .args .n
+factors c = sym (c .before .before .before .wide-byte .ensures .0) ∙ c .before .before .if2 .left
+
+basics : (c : tie.Else3) → sizes-at c .before .before .args .design .basics ≡ sizes-at c .before .before .args .n - sizes-at c .before .before .args .g
+basics c = sym (c .before .wide-byte2 .ensures .0) ∙ c .if3 .left
 
 size-number-requires : tie.Need-size-number-requires
 size-number-requires c κs = search needs
@@ -20,21 +50,16 @@ refused-requires c κs = search needs
 
 returns : tie.Need-returns
 returns c =
-    let a = c .before .before .before .args in
+    let s = c .before .before .before in
+    let a = s .args in
     let q = c .before .before .size-number in
-    let t = c .before .if1 .taken in
-    answered (designFaults (a .n) (a .g) (a .design)) (a .n) (a .g) (planOf (a .n) (a .n - a .g) (a .design .columns)) (q .result) (c .refused .result) (c .refused .ensures)
-    (size-refusal (either (RecordFault (a .n) (a .n - a .g) (a .design)) (ColumnsFault (a .n) (a .n - a .g) (a .design .columns))) (a .n) (a .g) (planOf (a .n) (a .n - a .g) (a .design .columns)) (q .result) t
+    answered (designFaults (a .n) (a .g) (a .design)) (a .n) (a .g) (plan s) (q .result) (c .refused .result) (c .refused .ensures)
+    (size-refusal (either (fault s) (columns-fault s)) (a .n) (a .g) (plan s) (q .result) (c .before .if1 .taken)
     (λ k f. ⊎-elim (λ e. record-least (a .n) (a .n - a .g) (a .design) k e) (λ e. omega (arith, columns-least (a .n) (a .n - a .g) (a .design .columns) k e)) f)
     (q .ensures .0))
 
 sub-m : tie.Need-sub-m
-sub-m c =
-    let a = c .before .before .args in
-    let q = c .before .size-number in
-    let t = c .if1 .left in
-    let z = q .ensures .1 t in
-    omega (arith, z .less)
+sub-m c = omega (arith, sized c .less)
 
 wide-byte-requires : tie.Need-wide-byte-requires
 wide-byte-requires c κs = search needs
@@ -44,15 +69,12 @@ refused-requires-2 c κs = search needs
 
 returns-2 : tie.Need-returns-2
 returns-2 c =
-    let a = c .before .before .before .before .before .args in
-    let q = c .before .before .before .before .size-number in
-    let t = c .before .before .before .if1 .left in
-    let w = c .before .before .wide-byte .ensures .0 in
-    let u = c .before .if2 .taken in
-    let z = q .ensures .1 t in
-    answered (designFaults (a .n) (a .g) (a .design)) (a .n) (a .g) (planOf (a .n) (a .n - a .g) (a .design .columns)) 4 (c .refused2 .result) (c .refused2 .ensures)
-    (plan-refusal (either (RecordFault (a .n) (a .n - a .g) (a .design)) (ColumnsFault (a .n) (a .n - a .g) (a .design .columns))) (a .n) (a .g) (planOf (a .n) (a .n - a .g) (a .design .columns)) 4 (omega arith) (size-0 (a .n) (a .g) z)
-    (lowest-first (RecordFault (a .n) (a .n - a .g) (a .design)) (ColumnsFault (a .n) (a .n - a .g) (a .design .columns)) 4 (omega arith) (record-4 (a .n) (a .n - a .g) (a .design) (inl (λ e. u (w ∙ e)))) (λ k f. omega (arith, columns-least (a .n) (a .n - a .g) (a .design .columns) k f))))
+    let o = c .before .before .before in
+    let s = o .before .before in
+    plan-answered (either (fault s) (columns-fault s)) (s .args .n) (s .args .g) (plan s) 4 (omega arith) (sized o)
+    (first s 4 (omega arith) (omega arith)
+    (record-4 (s .args .n) (s .args .n - s .args .g) (s .args .design) (inl (λ e. c .before .if2 .taken (c .before .before .wide-byte .ensures .0 ∙ e)))))
+    (c .refused2 .result) (c .refused2 .ensures)
 
 wide-byte-requires-2 : tie.Need-wide-byte-requires-2
 wide-byte-requires-2 c κs = search needs
@@ -62,17 +84,12 @@ refused-requires-3 c κs = search needs
 
 returns-3 : tie.Need-returns-3
 returns-3 c =
-    let a = c .before .before .before .before .before .before .before .args in
-    let q = c .before .before .before .before .before .before .size-number in
-    let t = c .before .before .before .before .before .if1 .left in
-    let w = c .before .before .before .before .wide-byte .ensures .0 in
-    let u = c .before .before .before .if2 .left in
-    let x = c .before .before .wide-byte2 .ensures .0 in
-    let v = c .before .if3 .taken in
-    let z = q .ensures .1 t in
-    answered (designFaults (a .n) (a .g) (a .design)) (a .n) (a .g) (planOf (a .n) (a .n - a .g) (a .design .columns)) 4 (c .refused3 .result) (c .refused3 .ensures)
-    (plan-refusal (either (RecordFault (a .n) (a .n - a .g) (a .design)) (ColumnsFault (a .n) (a .n - a .g) (a .design .columns))) (a .n) (a .g) (planOf (a .n) (a .n - a .g) (a .design .columns)) 4 (omega arith) (size-0 (a .n) (a .g) z)
-    (lowest-first (RecordFault (a .n) (a .n - a .g) (a .design)) (ColumnsFault (a .n) (a .n - a .g) (a .design .columns)) 4 (omega arith) (record-4 (a .n) (a .n - a .g) (a .design) (inr (λ e. v (x ∙ e)))) (λ k f. omega (arith, columns-least (a .n) (a .n - a .g) (a .design .columns) k f))))
+    let o = c .before .before .before .before .before in
+    let s = o .before .before in
+    plan-answered (either (fault s) (columns-fault s)) (s .args .n) (s .args .g) (plan s) 4 (omega arith) (sized o)
+    (first s 4 (omega arith) (omega arith)
+    (record-4 (s .args .n) (s .args .n - s .args .g) (s .args .design) (inr (λ e. c .before .if3 .taken (c .before .before .wide-byte2 .ensures .0 ∙ e)))))
+    (c .refused3 .result) (c .refused3 .ensures)
 
 unused-zero-requires : tie.Need-unused-zero-requires
 unused-zero-requires c κs = search needs
@@ -82,49 +99,25 @@ refused-requires-4 c κs = search needs
 
 returns-4 : tie.Need-returns-4
 returns-4 c =
-    let a = c .before .before .before .before .before .before .before .before .before .before .args in
-    let q = c .before .before .before .before .before .before .before .before .before .size-number in
-    let t = c .before .before .before .before .before .before .before .before .if1 .left in
-    let w = c .before .before .before .before .before .before .before .wide-byte .ensures .0 in
-    let u = c .before .before .before .before .before .before .if2 .left in
-    let x = c .before .before .before .before .before .wide-byte2 .ensures .0 in
-    let v = c .before .before .before .before .if3 .left in
-    let y = c .before .before .unused-zero .ensures in
-    let o = c .before .if4 .taken in
-    let z = q .ensures .1 t in
-    let p = y .1 (not-true _ o) in
-    answered (designFaults (a .n) (a .g) (a .design)) (a .n) (a .g) (planOf (a .n) (a .n - a .g) (a .design .columns)) 5 (c .refused4 .result) (c .refused4 .ensures)
-    (plan-refusal (either (RecordFault (a .n) (a .n - a .g) (a .design)) (ColumnsFault (a .n) (a .n - a .g) (a .design .columns))) (a .n) (a .g) (planOf (a .n) (a .n - a .g) (a .design .columns)) 5 (omega arith) (size-0 (a .n) (a .g) z)
-    (lowest-first (RecordFault (a .n) (a .n - a .g) (a .design)) (ColumnsFault (a .n) (a .n - a .g) (a .design .columns)) 5 (omega arith) (record-5 (a .n) (a .n - a .g) (a .design) (sym w ∙ u) (sym x ∙ v) (p .0) (p .1 .0) (p .1 .1 .0) (p .1 .1 .1)) (λ k f. omega (arith, columns-least (a .n) (a .n - a .g) (a .design .columns) k f))))
+    let u = c .before .before .before .before in
+    let o = sizes-at u in
+    let s = o .before .before in
+    let p = c .before .before .unused-zero .ensures .1 (not-true _ (c .before .if4 .taken)) in
+    plan-answered (either (fault s) (columns-fault s)) (s .args .n) (s .args .g) (plan s) 5 (omega arith) (sized o)
+    (first s 5 (omega arith) (omega arith)
+    (record-5 (s .args .n) (s .args .n - s .args .g) (s .args .design) (factors u) (basics u) (p .0) (p .1 .0) (p .1 .1 .0) (p .1 .1 .1)))
+    (c .refused4 .result) (c .refused4 .ensures)
 
 admit-array-requires : tie.Need-admit-array-requires
-admit-array-requires c κs =
-    let a = c .before .before .before .before .before .before .before .before .before .args in
-    let q = c .before .before .before .before .before .before .before .before .size-number in
-    let t = c .before .before .before .before .before .before .before .if1 .left in
-    let w = c .before .before .before .before .before .before .wide-byte .ensures .0 in
-    let u = c .before .before .before .before .before .if2 .left in
-    let x = c .before .before .before .before .wide-byte2 .ensures .0 in
-    let v = c .before .before .before .if3 .left in
-    let y = c .before .unused-zero .ensures in
-    let o = c .if4 .left in
-    let z = q .ensures .1 t in
-    (z .most, z .few)
+admit-array-requires c κs = let z = sized (sizes-at (c .before .before .before)) in (z .most, z .few)
 
 returns-5 : tie.Need-returns-5
 returns-5 c =
-    let a = c .before .before .before .before .before .before .before .before .before .before .args in
-    let q = c .before .before .before .before .before .before .before .before .before .size-number in
-    let t = c .before .before .before .before .before .before .before .before .if1 .left in
-    let w = c .before .before .before .before .before .before .before .wide-byte .ensures .0 in
-    let u = c .before .before .before .before .before .before .if2 .left in
-    let x = c .before .before .before .before .before .wide-byte2 .ensures .0 in
-    let v = c .before .before .before .before .if3 .left in
-    let y = c .before .before .unused-zero .ensures in
-    let o = c .before .if4 .left in
-    let z = q .ensures .1 t in
-    array-admission (RecordFault (a .n) (a .n - a .g) (a .design)) (a .n) (a .g) (a .design .columns) (a .design .columns) (c .admit-array .result .number) (c .admit-array .result .columns) z
-    (record-0 (a .n) (a .n - a .g) (a .design) (sym w ∙ u) (sym x ∙ v) (y .0 (not-false _ o))) (λ f h. refl) (c .admit-array .ensures)
+    let u = c .before .before .before .before in
+    let o = sizes-at u in
+    let a = o .before .before .args in
+    array-admission (RecordFault (a .n) (a .n - a .g) (a .design)) (a .n) (a .g) (a .design .columns) (a .design .columns) (c .admit-array .result .number) (c .admit-array .result .columns) (sized o)
+    (record-0 (a .n) (a .n - a .g) (a .design) (factors u) (basics u) (c .before .before .unused-zero .ensures .0 (not-false _ (c .before .if4 .left)))) (λ f h. refl) (c .admit-array .ensures)
 
 pub admit-design-spec : {M : Type 1} → statement M
 admit-design-spec =

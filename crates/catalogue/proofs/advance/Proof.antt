@@ -2,7 +2,7 @@
 use borrow.Author.Needs.{needs}
 use Rattle.catalogue.proofs.Turns.{turn-refused, turn-ended, turn-full, turn-goes}
 use Rattle.catalogue.specs.declared.Turn.{Turn}
-use Rattle.catalogue.specs.Faults.{Sized}
+use Rattle.catalogue.specs.Sized.{Sized}
 use Rattle.catalogue.specs.Turns.{Turned}
 use borrow.Author.Tests.{not-true, not-false}
 use native.Mathlib.Omega.{arith}

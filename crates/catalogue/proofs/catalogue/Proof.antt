@@ -49,9 +49,9 @@ use denote.Triple.Table.{entered, cited}
 use denote.Triple.Walked.{says, Stays, stay-slice, stay-none, walkOf, goes-slice, goes-none, Walks, ends-at, walked, walk-meets}
 use denote.Exit.{yes}
 use Rattle.regular.specs.declared.Design.{Design}
-use Rattle.catalogue.specs.declared.CatalogueAnswer.{CatalogueAnswer}
+use Rattle.regular.specs.declared.CatalogueAnswer.{CatalogueAnswer}
 use Rattle.catalogue.specs.declared.Listed.{Listed}
-use Rattle.catalogue.specs.Lists.{ListsDesigns}
+use Rattle.regular.specs.Catalogues.{ListsDesigns}
 use Rattle.catalogue.specs.Turns.{Going}
 use Rattle.catalogue.specs.Records.{Stepped, Listing}
 use Rattle.catalogue.proofs.Records.{listing-none, listing-room, listing-more, listing-stops, holds, fails}
@@ -59,8 +59,8 @@ use Rattle.regular.proofs.Design as T
 use Rattle.regular.proofs.Design.Laws as T′
 use Rattle.catalogue.proofs.Listed as S
 use Rattle.catalogue.proofs.Listed.Laws as S′
-use Rattle.catalogue.proofs.CatalogueAnswer as R
-use Rattle.catalogue.proofs.CatalogueAnswer.Laws as R′
+use Rattle.regular.proofs.CatalogueAnswer as R
+use Rattle.regular.proofs.CatalogueAnswer.Laws as R′
 use Rattle.catalogue.proofs.begin as beg
 use Rattle.catalogue.proofs.begin.Symbol as beg-def
 use Rattle.catalogue.proofs.begin.Symbol.{name as #catalogue·begin}

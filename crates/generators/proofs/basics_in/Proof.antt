@@ -5,7 +5,7 @@ use Prim.Native.Nat.{_-_, _≤_}
 use native.Mathlib.Omega.{arith}
 use borrow.Author.Needs.{needs}
 use Rattle.regular.specs.Words.{total}
-use Rattle.generators.specs.Walk.{total-turn}
+use Rattle.standard.specs.Total.{total-turn}
 use Rattle.generators.proofs.basics_in.Statement.{statement}
 use Rattle.generators.proofs.basics_in.Tie as tie
 

@@ -1,21 +1,36 @@
--- `smallest_form::smallest_of_columns` meets its contract: the admitted plan is that of the columns. Assumes nothing.
-use Prim.Native.Nat.{_-_}
-use Rattle.regular.specs.Refusals.{columnsFaults}
-use Rattle.regular.specs.RefusalLaws.{columns-faults-most}
+-- `smallest_form::smallest_of_columns` meets its contract: the list and the lent list are judged first, then the plan; its form is lent and looked for. Assumes nothing.
+use Prim.Native.Nat.{ℕ, _-_}
+use mathlib.Core.Path.{_≡_, subst, _∙_}
 use Rattle.regular.specs.Columns.{planOf}
-use Rattle.smallest_form.specs.Settling.{admission-ready, settles-into}
+use lib.ListN.{length}
+use Rattle.regular.specs.Refusals.{columnsFaults, LentFault, either}
+use Rattle.regular.specs.RefusalLaws.{columns-faults-most}
+use Rattle.regular.specs.SmallestAnswers.{ReducesInto}
+use Rattle.reduction.specs.Lending.{lending-accepted}
+use Rattle.smallest_form.specs.Others.{others, others-most, others-lowest}
+use Rattle.smallest_form.specs.Placed.{formed-other, formed-mask, formed-into}
 use Rattle.smallest_form.proofs.smallest_of_columns.Statement.{statement}
 use Rattle.smallest_form.proofs.smallest_of_columns.Tie as tie
 use borrow.Author.Needs.{needs}
 
-admit-columns-requires : tie.Need-admit-columns-requires
-admit-columns-requires c κs = search needs
+plans-refusal-requires : tie.Need-plans-refusal-requires
+plans-refusal-requires c κs = search needs
 
-reduce-into-requires : tie.Need-reduce-into-requires
-reduce-into-requires c κs =
-    let a = c .before .before .before .before .before .before .args in
-    let q = c .before .before .admit-columns in
-    admission-ready (columnsFaults (a .n) (a .g) (a .columns .now)) (a .n) (a .g) (planOf (a .n) (a .n - a .g) (a .columns .now)) (q .result .number) (q .result .columns) (q .ensures)
+lending-requires : tie.Need-lending-requires
+lending-requires c κs = search needs
+
+form-of-columns-requires : tie.Need-form-of-columns-requires
+form-of-columns-requires c κs = search needs
+
+placed-into-requires : tie.Need-placed-into-requires
+placed-into-requires c κs = λ e.
+    let a = c .before .before .before .before .before .before .before .before .before .before .before .args in
+    let k = c .before .before .before .before .before .before .plans-refusal in
+    let o = c .before .before .before .before .before .lending in
+    let f = c .before .before .before .form-of-columns in
+    let z = f .ensures .sizes e in
+    let y = formed-other (columnsFaults (a .n) (a .g) (a .columns .now)) (a .n) (a .g) (planOf (a .n) (a .n - a .g) (a .columns .now)) (λ mask. mask ≡ 0) (o .result) (a .witness .now) (f .last .1 .1 .1 .1 .0) (f .result) (f .ensures) e in
+    (z .some, z .most, lending-accepted (k .result) (a .n) (length (a .out .now)) (o .result) (o .ensures) y .1)
 
 same-length : tie.Need-same-length
 same-length c = search needs
@@ -25,12 +40,19 @@ same-length-2 c = search needs
 
 returns : tie.Need-returns
 returns c =
-    let a = c .before .before .before .before .before .before .before .before .before .before .before .args in
-    let q = c .before .before .before .before .before .before .before .admit-columns in
-    let l = c .before .before .before .before .reduce-into in
-    settles-into (columnsFaults (a .n) (a .g) (a .columns .now)) (columns-faults-most (a .n) (a .g) (a .columns .now)) (a .n) (a .g) (planOf (a .n) (a .n - a .g) (a .columns .now)) (q .result .number) (q .result .columns) (q .ensures) (a .out .now) (l .last .1 .1 .1 .0) (a .witness .now) (l .last .1 .1 .1 .1 .0) (l .result) (l .ensures)
+    let a = c .before .before .before .before .before .before .before .before .before .before .before .before .before .before .args in
+    let k = c .before .before .before .before .before .before .before .before .before .plans-refusal in
+    let o = c .before .before .before .before .before .before .before .before .lending in
+    let f = c .before .before .before .before .before .before .form-of-columns in
+    let p = c .before .before .placed-into in
+    let z = p .ensures .mask ∙ formed-mask (columnsFaults (a .n) (a .g) (a .columns .now)) (a .n) (a .g) (planOf (a .n) (a .n - a .g) (a .columns .now)) (o .result) (a .witness .now) (f .last .1 .1 .1 .1 .0) (f .result) (f .ensures) in
+    subst (λ (k : ℕ). ReducesInto (either (either (columnsFaults (a .n) (a .g) (a .columns .now)) (others (a .n) (a .g) (a .list .now) (a .n) (a .out .now))) (LentFault (a .n) (a .witness .now))) (a .n) (a .n - a .g) (planOf (a .n) (a .n - a .g) (a .columns .now)) (λ mask. mask ≡ 0) (a .list .now) (a .out .now) (p .last .1 .1 .1 .0)
+    (a .witness .now) (f .last .1 .1 .1 .1 .0) (p .result .number) k (p .result .place)) z
+    (formed-into (columnsFaults (a .n) (a .g) (a .columns .now)) (others (a .n) (a .g) (a .list .now) (a .n) (a .out .now)) (columns-faults-most (a .n) (a .g) (a .columns .now)) (others-most (a .n) (a .g) (a .list .now) (a .n) (a .out .now)) (a .n) (a .g) (planOf (a .n) (a .n - a .g) (a .columns .now)) (λ mask. mask ≡ 0) (o .result)
+    (others-lowest (a .n) (a .g) (a .list .now) (a .n) (a .out .now) (k .result) (o .result) (k .ensures) (o .ensures)) (a .witness .now) (f .last .1 .1 .1 .1 .0) (f .result) (f .ensures)
+    (a .list .now) (a .out .now) (p .last .1 .1 .1 .0) (p .result) (p .ensures))
 
 pub smallest-of-columns-spec : {M : Type 1} → statement M
 smallest-of-columns-spec =
     tie.close
-    (tie.spec admit-columns-requires reduce-into-requires same-length same-length-2 returns)
+    (tie.spec plans-refusal-requires lending-requires form-of-columns-requires placed-into-requires same-length same-length-2 returns)

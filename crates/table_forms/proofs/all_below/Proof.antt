@@ -5,8 +5,8 @@ use native.Mathlib.Omega.{arith}
 use borrow.Author.Count.{below-more}
 use borrow.Author.Needs.{needs}
 use lib.ListN.{length, getD}
+use Rattle.gf2.specs.Places.{place-in, in-place}
 use Rattle.table_forms.specs.Turns.{never}
-use Rattle.table_forms.specs.Places.{place-in, in-place}
 use Rattle.table_forms.proofs.all_below.Statement.{statement}
 use Rattle.table_forms.proofs.all_below.Tie as tie
 

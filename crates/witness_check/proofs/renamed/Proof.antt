@@ -7,7 +7,7 @@ use Prim.Native.Nat.{_≤_, _-_, ℕ}
 use mathlib.Core.Path.{_≡_, sym, _∙_, ap}
 use Rattle.regular.specs.Same.{moved}
 use native.Mathlib.Omega.{arith}
-use Rattle.witness_check.specs.Names.{moved-fits, moved-step, moved-none}
+use Rattle.isomorphism_laws.specs.Moving.{moved-fits, moved-step, moved-none}
 
 abbrev Inv-loop : tie.InvT-loop
 Inv-loop n names x y₀ f₀ y f = (f ≤ n) × (y ≡ moved names f x)
@@ -38,7 +38,7 @@ add-y c =
     let at = c .before .before .before .before in
     let a = at .before .before .args in
     let p = at .before .before .pre in
-    omega (arith, moved-fits (a .n) (a .names .now) (at .loop .f) (a .x) (p .0) (p .1) (omega arith) (at .loop .y) (c .level .result) (c .before .wide-byte .result) (at .loop .inv .1) (c .level .ensures .0) (c .before .wide-byte .ensures .0))
+    omega (arith, moved-fits (a .n) (a .names .now) (at .loop .f) (a .x) (p .0) (p .1 .renaming) (omega arith) (at .loop .y) (c .level .result) (c .before .wide-byte .result) (at .loop .inv .1) (c .level .ensures .0) (c .before .wide-byte .ensures .0))
 
 add-f : tie.Need-add-f Inv-loop μ-loop
 add-f c = search needs
@@ -51,7 +51,7 @@ loop-again c =
     let at = c .before .before .before .before in
     let a = at .before .before .args in
     let p = at .before .before .pre in
-    (omega arith, moved-step (a .n) (a .names .now) (at .loop .f) (a .x) (p .0) (p .1) (omega arith) (at .loop .y) (c .level .result) (c .before .wide-byte .result) (at .loop .inv .1) (c .level .ensures .0) (c .before .wide-byte .ensures .0))
+    (omega arith, moved-step (a .n) (a .names .now) (at .loop .f) (a .x) (p .0) (p .1 .renaming) (omega arith) (at .loop .y) (c .level .result) (c .before .wide-byte .result) (at .loop .inv .1) (c .level .ensures .0) (c .before .wide-byte .ensures .0))
 
 returns : tie.Need-returns Inv-loop μ-loop
 returns c = let e : c .before .loop .f ≡ c .before .before .before .args .n = omega arith in c .before .loop .inv .1 ∙ ap (λ (k : ℕ). moved (c .before .before .before .args .names .now) k (c .before .before .before .args .x)) e

@@ -1,7 +1,7 @@
 -- `word_forms::eliminate` meets its contract. The loop's invariant: `piv` holds the pivot words of the words passed. A word that reduces to nothing
 -- depends on them; any other has a new last letter. The measure is what is left of the list. Assumes nothing.
 use mathlib.Core.Path.{_≡_, subst}
-use Prim.Native.Nat.{ℕ, _-_, _≤_}
+use Prim.Native.Nat.{ℕ, _-_, _≤_, _<_}
 use native.Mathlib.Omega.{arith}
 use borrow.Author.Needs.{needs}
 use lib.ListN.{length}
@@ -43,29 +43,25 @@ returns c =
 last-of-requires : tie.Need-last-of-requires Inv-loop μ-loop
 last-of-requires c κs = search needs
 
-mul-piv : tie.Need-mul-piv Inv-loop μ-loop
-mul-piv c =
+-- the last letter of the word at hand is one of the n
+letter-lt : (c : tie.After-last-of Inv-loop μ-loop) → c .last-of .result < c .before .before .before .before .before .before .before .before .args .n
+letter-lt c =
     let at = c .before .before .before .before .before .before in
     let s = at .before .before in
-    let ws = s .args .ws .now in
     let i = at .loop .i in
-    let w = c .before .before .reduce .result in
-    let el = at .loop .inv .1 in
     let hw = s .pre .1 i (omega arith) in
-    let l = place-lt (s .args .n) i ws (at .loop .piv) w el hw (c .before .before .reduce .ensures) (c .before .if1 .left) in
-    omega (arith, c .last-of .ensures)
+    omega (
+      arith,
+      c .last-of .ensures,
+      place-lt (s .args .n) i (s .args .ws .now) (at .loop .piv) (c .before .before .reduce .result) (at .loop .inv .1) hw (c .before .before .reduce .ensures)
+          (c .before .if1 .left),
+    )
+
+mul-piv : tie.Need-mul-piv Inv-loop μ-loop
+mul-piv c = omega (arith, letter-lt c)
 
 array-write-piv : tie.Need-array-write-piv Inv-loop μ-loop
-array-write-piv c =
-    let at = c .before .before .before .before .before .before in
-    let s = at .before .before in
-    let ws = s .args .ws .now in
-    let i = at .loop .i in
-    let w = c .before .before .reduce .result in
-    let el = at .loop .inv .1 in
-    let hw = s .pre .1 i (omega arith) in
-    let l = place-lt (s .args .n) i ws (at .loop .piv) w el hw (c .before .before .reduce .ensures) (c .before .if1 .left) in
-    omega (arith, c .last-of .ensures)
+array-write-piv c = omega (arith, letter-lt c)
 
 add-i : tie.Need-add-i Inv-loop μ-loop
 add-i c = search needs

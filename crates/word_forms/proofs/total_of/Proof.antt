@@ -5,7 +5,7 @@ use Prim.Native.Nat.{_-_, _≤_}
 use native.Mathlib.Omega.{arith}
 use borrow.Author.Needs.{needs}
 use Rattle.regular.specs.Words.{total}
-use Rattle.word_forms.specs.Turns.{total-turn}
+use Rattle.standard.specs.Total.{total-turn}
 use Rattle.word_forms.proofs.total_of.Statement.{statement}
 use Rattle.word_forms.proofs.total_of.Tie as tie
 

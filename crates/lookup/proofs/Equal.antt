@@ -1,0 +1,19 @@
+-- Two records are equal if their parts are, two lists of one length if their places are.
+use mathlib.Core.Path.{_≡_, sym, ap, _∙_}
+use mathlib.Core.List.{List}
+use Prim.Native.Nat.{ℕ, _≤_, _<_}
+use native.Mathlib.Omega.{arith}
+use lib.ListN.{length, getD}
+use lib.Seq.{ext-getD}
+use Rattle.regular.specs.declared.Design.{Design}
+
+pub columns-equal : (c d : List ℕ) (f : ℕ) → length c ≡ 16 → length d ≡ 16 → 16 ≤ f → ((g : ℕ) → g < f → getD c g 0 ≡ getD d g 0) → c ≡ d
+columns-equal c d f p q h eq = ext-getD 0 c d (p ∙ sym q) (λ g l. eq g (omega arith))
+
+design : ℕ → ℕ → List ℕ → Design
+design f b c = record { factors = f; basics = b; columns = c }
+
+pub design-equal : (c d : Design) → c .factors ≡ d .factors → c .basics ≡ d .basics → c .columns ≡ d .columns → c ≡ d
+unfolding design
+design-equal c d f b e =
+    ap (λ (x : ℕ). design x (c .basics) (c .columns)) f ∙ ap (λ (x : ℕ). design (d .factors) x (c .columns)) b ∙ ap (design (d .factors) (d .basics)) e

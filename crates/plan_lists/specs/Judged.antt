@@ -1,0 +1,34 @@
+-- What the judging of one plan and of the plans of a list answers, a resolution r being wanted. Definitions only.
+use Prim.Native.Nat.{ℕ, _*_, _-_, _<_}
+use mathlib.Core.Path.{_≡_}
+use mathlib.Core.List.{List}
+use Rattle.regular.specs.Runs.{Runs}
+use Rattle.regular.specs.Columns.{planOf}
+use Rattle.regular.specs.Refusals.{WantedFault, either, Lowest, sizeFaults, designFaults, columnsFaults}
+use Rattle.regular.specs.RefusalLaws.{Lower}
+use Rattle.regular.specs.PlanLists.{planAt, ofSome}
+use Rattle.regular.specs.declared.Design.{Design}
+
+-- the faults of one plan: its own, and a word shorter than r
+abbrev pub designWanted : ℕ → ℕ → ℕ → Design → ℕ → Type 0
+designWanted n g r d = either (designFaults n g d) (WantedFault n r (planOf n (n - g) (d .columns)))
+
+abbrev pub columnsWanted : ℕ → ℕ → ℕ → List ℕ → ℕ → Type 0
+columnsWanted n g r c = either (columnsFaults n g c) (WantedFault n r (planOf n (n - g) c))
+
+-- a plan s with the refusal `number`, 0 if admitted: that number, or what its words say
+pub record Verdict (n r : ℕ) (s : Runs) (number k : ℕ) : Type 0 where
+  pub refused : 0 < number → k ≡ number
+  pub admitted : number ≡ 0 → Lowest (WantedFault n r s) k
+
+-- k is the lower of a number and that of a plan's faults
+pub record Joined (fault : ℕ → Type 0) (lowest k : ℕ) : Type 0 where
+  pub number : ℕ
+  pub own : Lowest fault number
+  pub lower : Lower lowest number k
+
+-- the sizes and the plans in the first `base` bytes are judged
+pub record AllJudged (n g r : ℕ) (bytes : List ℕ) (base k : ℕ) : Type 0 where
+  pub count : ℕ
+  pub place : base ≡ count * n
+  pub lowest : Lowest (either (sizeFaults n g r) (ofSome (λ i. i < count) (λ i. columnsWanted n g r (planAt n bytes i)))) k

@@ -1,0 +1,267 @@
+-- One plan's number from its resolution, the number of a list of plans from those of its plans, and what r = 3 adds: nothing.
+use Prim.Native.Nat.{ℕ, zero, suc, _+_, _*_, _-_, _/_, _%_, _≤_, _<_}
+use mathlib.Core.Path.{_≡_, refl, sym, ap, subst, _∙_}
+use mathlib.Core.Logic.{_⊎_, inl, inr, ⊎-elim, by-cases}
+use mathlib.Core.List.{List}
+use native.Mathlib.Decide.{ℕ-discrete, decLt}
+use native.Mathlib.Nat.{add-zero, div-add-mod', mul-le-mul-right, suc-mul}
+use native.Mathlib.Numerals.{add-one}
+use native.Mathlib.Omega.{arith}
+use lib.Arith.{digits-mod}
+use lib.ListN.{length, getD, take, drop}
+use Rattle.gf2.specs.Letters.{ones-some}
+use Rattle.regular.specs.Sizes.{Size}
+use Rattle.regular.specs.Runs.{Runs}
+use Rattle.regular.specs.Words.{NoShort}
+use Rattle.regular.specs.Columns.{planOf}
+use Rattle.regular.specs.Designs.{blank}
+use Rattle.regular.specs.Pattern.{Pattern, Resolution}
+use Rattle.regular.specs.Refusals.{Short, SizeFault, ResolutionFault, ColumnsFault, WantedFault, either, Lowest, sizeFaults, designFaults, columnsFaults}
+use Rattle.regular.specs.RefusalLaws.{lowest-none, lowest-at, lowest-same, lowest-first, lowest-then, lowest-lower, none-lowest, size-most, list-is, columns-least, Lower}
+use Rattle.regular.specs.PlanLists.{planAt, HasPlan, BytesFault, ofSome, recordsFaults, plansFaults, wantedRecordsFaults, wantedPlansFaults}
+use Rattle.regular.specs.declared.Design.{Design}
+use Rattle.words.specs.Short.{plain-long}
+use Rattle.words.specs.Switches.{agree-sym, short-agree}
+use Rattle.counts.specs.Models.{firstLength}
+use Rattle.counts.specs.Resolutions.{resolution-of-pattern}
+use Rattle.measures.specs.Ready.{Ready}
+use Rattle.admission.specs.Admission.{Admission}
+use Rattle.plan_lists.specs.Judged.{designWanted, columnsWanted, Verdict, Joined, AllJudged}
+
+-- the wanted resolution
+pub wanted-is : (n r : ℕ) (s : Runs) (k : ℕ) → WantedFault n r s k → k ≡ 7
+wanted-is n r s k (WantedFault.short h) = refl
+
+pub resolution-is : (r k : ℕ) → ResolutionFault r k → k ≡ 3
+resolution-is r k (ResolutionFault.outside h) = refl
+
+pub resolution-never : (r k : ℕ) → 3 ≤ r → r ≤ 16 → ResolutionFault r k → ⊥
+resolution-never r k a b (ResolutionFault.outside (inl h)) = omega arith
+resolution-never r k a b (ResolutionFault.outside (inr h)) = omega arith
+
+-- the sizes, then the wanted resolution
+abbrev Sizes : ℕ → ℕ → ℕ → ℕ → Type 0
+Sizes n g r k = Lowest (sizeFaults n g r) k × (k ≡ 0 → Size n g) × (k ≤ 3)
+
+pub sizes-first : (n g r k : ℕ) → (k ≡ 0 → ⊥) → Lowest (SizeFault n g) k → Sizes n g r k
+sizes-first n g r k some l =
+    let low = size-most n g k (l .applies (omega arith)) in
+    (lowest-first (SizeFault n g) (ResolutionFault r) k (omega arith) l (λ j f. omega (arith, resolution-is r j f)), (λ e. absurd (some e)), omega arith)
+
+pub sizes-three : (n g r k : ℕ) → k ≡ 0 → Lowest (SizeFault n g) k → (r < 3) ⊎ (16 < r) → Sizes n g r 3
+sizes-three n g r k e l h = (
+  lowest-then (SizeFault n g) (ResolutionFault r) 3 (subst (Lowest (SizeFault n g)) e l)
+      (lowest-at (ResolutionFault r) 3 (omega arith) (ResolutionFault.outside h) (λ j f. omega (arith, resolution-is r j f))),
+  (λ z. absurd (omega arith)),
+  omega arith,
+)
+
+pub sizes-none : (n g r k : ℕ) → k ≡ 0 → Lowest (SizeFault n g) k → (k ≡ 0 → Size n g) → 3 ≤ r → r ≤ 16 → Sizes n g r 0
+sizes-none n g r k e l z low high = (
+  lowest-then (SizeFault n g) (ResolutionFault r) 0 (subst (Lowest (SizeFault n g)) e l) (lowest-none (ResolutionFault r) (λ j f. resolution-never r j low high f)),
+  (λ _. z e),
+  omega arith,
+)
+
+-- no word is shorter
+pub wanted-none : (n r : ℕ) (s : Runs) → NoShort n r s → Lowest (WantedFault n r s) 0
+wanted-none n r s long = lowest-none (WantedFault n r s) never
+  where
+    never : (k : ℕ) → WantedFault n r s k → ⊥
+    never k (WantedFault.short w) = omega (arith, long (w .word) (w .is), w .few)
+
+-- nor than 3, so than less
+pub wanted-low : (n r : ℕ) (s : Runs) → r ≤ 3 → NoShort n 3 s → Lowest (WantedFault n r s) 0
+wanted-low n r s low long = wanted-none n r s (λ w is. omega (arith, long w is))
+
+pub ready-long : {n g : ℕ} {a : List ℕ} → Ready n g a → NoShort n 3 (planOf n (n - g) a)
+ready-long {n} {g} {a} r = plain-long n (n - g) (planOf n (n - g) a) a (record { form = r .form; plan = record { into = λ x p. p; onto = λ x p. p } }) (r .plain)
+
+-- what the resolution q says, found as the pattern's first length and widened
+pub resolved : {n : ℕ} {s : Runs} {p : List ℕ} {q w : ℕ} → Pattern n s p → q ≡ firstLength n p → w ≡ q → Resolution n s w
+resolved {n} {s} {p} c e f = subst (Resolution n s) (sym (f ∙ e)) (resolution-of-pattern n s p c)
+
+pub resolved-none : (n r : ℕ) (s : Runs) (q : ℕ) → Resolution n s q → q ≡ 0 → NoShort n r s
+resolved-none n r s q (Resolution.full h) e w is = absurd (h w is)
+resolved-none n r s q (Resolution.shortest v v-is least) e w is = absurd (omega (arith, ones-some n v (v-is .some) (v-is .within)))
+
+pub resolved-long : (n r : ℕ) (s : Runs) (q : ℕ) → Resolution n s q → r ≤ q → NoShort n r s
+resolved-long n r s q (Resolution.full h) l w is = absurd (h w is)
+resolved-long n r s q (Resolution.shortest v v-is least) l w is = omega (arith, least w is)
+
+pub resolved-short : (n r : ℕ) (s : Runs) (q : ℕ) → Resolution n s q → (q ≡ 0 → ⊥) → q < r → Lowest (WantedFault n r s) 7
+resolved-short n r s q (Resolution.full h) some l = absurd (some refl)
+resolved-short n r s q (Resolution.shortest v v-is least) some l =
+    lowest-at (WantedFault n r s) 7 (omega arith) (WantedFault.short (record { word = v; is = v-is; few = l })) (λ k f. omega (arith, wanted-is n r s k f))
+
+-- a refusal is passed on; an admitted plan is judged
+pub passed-on : (n r : ℕ) (s : Runs) (number : ℕ) → (number ≡ 0 → ⊥) → Verdict n r s number number
+passed-on n r s number some = record { refused = λ _. refl; admitted = λ e. absurd (some e) }
+
+pub judges : (n r : ℕ) (s : Runs) (number k : ℕ) → number ≡ 0 → Lowest (WantedFault n r s) k → Verdict n r s number k
+judges n r s number k e l = record { refused = λ h. absurd (omega arith); admitted = λ _. l }
+
+-- a plan s, admitted by the faults `fault` with the standard columns a
+pub judged : {fault : ℕ → Type 0} {n g r : ℕ} {s : Runs} {k : ℕ} {a : List ℕ} (number : ℕ) → ((j : ℕ) → fault j → j ≤ 7) → Admission fault n g s number a
+    → Verdict n r (planOf n (n - g) a) number k → Lowest (either fault (WantedFault n r s)) k
+judged {fault} {n} {g} {r} {s} {k} {a} zero most ad v = lowest-then fault (WantedFault n r s) k (ad .lowest) (lowest-same (WantedFault n r plan) (WantedFault n r s) k into onto (v .admitted refl))
+  where
+    plan : Runs
+    plan = planOf n (n - g) a
+
+    into : (j : ℕ) → WantedFault n r plan j → WantedFault n r s j
+    into j (WantedFault.short w) = WantedFault.short (short-agree n plan s (agree-sym s plan (ad .standard refl .plan)) r w)
+
+    onto : (j : ℕ) → WantedFault n r s j → WantedFault n r plan j
+    onto j (WantedFault.short w) = WantedFault.short (short-agree n s plan (ad .standard refl .plan) r w)
+judged {fault} {n} {g} {r} {s} {k} {a} (suc number) most ad v =
+    subst (Lowest (either fault (WantedFault n r s))) (sym (v .refused (omega arith)))
+    (lowest-first fault (WantedFault n r s) (suc number) (omega arith) (ad .lowest)
+    (λ j f. omega (arith, wanted-is n r s j f, most (suc number) (ad .lowest .applies (omega arith)))))
+
+-- one plan more
+module _ (S : ℕ → Type 0) (fault : ℕ → ℕ → Type 0) (count lowest k : ℕ) (low : Lowest (either S (ofSome (λ i. i < count) fault)) lowest) (j : Joined (fault count) lowest k) where
+  abbrev Before : ℕ → Type 0
+  Before = either S (ofSome (λ i. i < count) fault)
+
+  abbrev After : ℕ → Type 0
+  After = either S (ofSome (λ i. i < suc count) fault)
+
+  joined-into : (k : ℕ) → either Before (fault count) k → After k
+  joined-into k (inl (inl s)) = inl s
+  joined-into k (inl (inr (i, (l, f)))) = inr (i, (omega arith, f))
+  joined-into k (inr f) = inr (count, (omega arith, f))
+
+  joined-onto : (k : ℕ) → After k → either Before (fault count) k
+  joined-onto k (inl s) = inl (inl s)
+  joined-onto k (inr (i, (l, f))) =
+      by-cases (decLt i count) (λ h. inl (inr (i, (h, f)))) (λ h. let e : i ≡ count = omega arith in inr (subst (λ (m : ℕ). fault m k) e f))
+
+  pub joined : Lowest After k
+  joined = lowest-same (either Before (fault count)) After k joined-into joined-onto (lowest-lower Before (fault count) lowest (j .number) k low (j .own) (j .lower))
+
+  pub joined-next : Lowest (either S (ofSome (λ i. i < count + 1) fault)) k
+  joined-next = subst (λ (c : ℕ). Lowest (either S (ofSome (λ i. i < c) fault)) k) (sym (add-one count)) joined
+
+-- the start: no plan yet
+pub joined-none : (S : ℕ → Type 0) (fault : ℕ → ℕ → Type 0) (k : ℕ) → Lowest S k → Lowest (either S (ofSome (λ i. i < 0) fault)) k
+joined-none S fault k l = lowest-same S (either S (ofSome (λ i. i < 0) fault)) k (λ j s. inl s) onto l
+  where
+    onto : (j : ℕ) → either S (ofSome (λ i. i < 0) fault) j → S j
+    onto j (inl s) = s
+    onto j (inr (i, (l, f))) = absurd (omega arith)
+
+-- all records of a list
+module _ (n g r : ℕ) (list : List Design) where
+  abbrev EachRecord : ℕ → ℕ → Type 0
+  EachRecord count = ofSome (λ i. i < count) (λ i. designWanted n g r (getD list i blank))
+
+  records-into : (k : ℕ) → either (sizeFaults n g r) (EachRecord (length list)) k → wantedRecordsFaults n g r list k
+  records-into k (inl (inl s)) = inl (inl s)
+  records-into k (inl (inr f)) = inr (inl f)
+  records-into k (inr (i, (l, inl f))) = inl (inr (i, (l, f)))
+  records-into k (inr (i, (l, inr f))) = inr (inr (i, (l, f)))
+
+  records-onto : (k : ℕ) → wantedRecordsFaults n g r list k → either (sizeFaults n g r) (EachRecord (length list)) k
+  records-onto k (inl (inl s)) = inl (inl s)
+  records-onto k (inl (inr (i, (l, f)))) = inr (i, (l, inl f))
+  records-onto k (inr (inl f)) = inl (inr f)
+  records-onto k (inr (inr (i, (l, f)))) = inr (i, (l, inr f))
+
+  pub records-all : (count k : ℕ) → count ≡ length list → Lowest (either (sizeFaults n g r) (EachRecord count)) k → Lowest (wantedRecordsFaults n g r list) k
+  records-all count k e l =
+      lowest-same (either (sizeFaults n g r) (EachRecord (length list))) (wantedRecordsFaults n g r list) k records-into records-onto
+      (subst (λ (c : ℕ). Lowest (either (sizeFaults n g r) (EachRecord c)) k) e l)
+
+-- where no resolution is taken: 3 adds nothing
+pub three-records : (n g : ℕ) (list : List Design) (k : ℕ) → Lowest (wantedRecordsFaults n g 3 list) k → Lowest (recordsFaults n g list) k
+three-records n g list k = lowest-same (wantedRecordsFaults n g 3 list) (recordsFaults n g list) k into (λ j f. inl f)
+  where
+    into : (j : ℕ) → wantedRecordsFaults n g 3 list j → recordsFaults n g list j
+    into j (inl f) = f
+    into j (inr (inl f)) = absurd (resolution-never 3 j (omega arith) (omega arith) f)
+    into j (inr (inr (i, (l, WantedFault.short w)))) = inr (i, (l, inr (inr (ColumnsFault.short w))))
+
+pub three-plans : (n g : ℕ) (bytes : List ℕ) (k : ℕ) → Lowest (wantedPlansFaults n g 3 bytes) k → Lowest (plansFaults n g bytes) k
+three-plans n g bytes k = lowest-same (wantedPlansFaults n g 3 bytes) (plansFaults n g bytes) k into (λ j f. inl f)
+  where
+    into : (j : ℕ) → wantedPlansFaults n g 3 bytes j → plansFaults n g bytes j
+    into j (inl f) = f
+    into j (inr (inl f)) = absurd (resolution-never 3 j (omega arith) (omega arith) f)
+    into j (inr (inr (i, (l, WantedFault.short w)))) = inr (inr (i, (l, inr (inr (ColumnsFault.short w)))))
+
+-- plans as bytes
+module _ (n g r : ℕ) (bytes : List ℕ) where
+  abbrev EachPlan : ℕ → ℕ → Type 0
+  EachPlan count = ofSome (λ i. i < count) (λ i. columnsWanted n g r (planAt n bytes i))
+
+  -- what is not the sizes' fault has a number from 4 up
+  later : (k : ℕ) → wantedPlansFaults n g r bytes k → sizeFaults n g r k ⊎ (4 ≤ k)
+  later k (inl (inl s)) = inl (inl s)
+  later k (inl (inr (inl (BytesFault.count h)))) = inr (omega arith)
+  later k (inl (inr (inr (i, (l, inl s))))) = inl (inl s)
+  later k (inl (inr (inr (i, (l, inr (inl f)))))) = inr (omega (arith, list-is n (planAt n bytes i) k f))
+  later k (inl (inr (inr (i, (l, inr (inr f)))))) = inr (omega (arith, columns-least n (n - g) (planAt n bytes i) k f))
+  later k (inr (inl f)) = inl (inr f)
+  later k (inr (inr (i, (l, f)))) = inr (omega (arith, wanted-is n r (planOf n (n - g) (planAt n bytes i)) k f))
+
+  pub plans-sizes : (k : ℕ) → (k ≡ 0 → ⊥) → k ≤ 3 → Lowest (sizeFaults n g r) k → Lowest (wantedPlansFaults n g r bytes) k
+  plans-sizes k some low l = lowest-at (wantedPlansFaults n g r bytes) k (omega arith) (⊎-elim (λ s. inl (inl s)) (λ f. inr (inl f)) (l .applies (omega arith)))
+      (λ j f. ⊎-elim (λ s. l .least j s .1) (λ h. omega arith) (later j f))
+
+  pub plans-four : Lowest (sizeFaults n g r) 0 → ((count : ℕ) → length bytes ≡ count * n → ⊥) → Lowest (wantedPlansFaults n g r bytes) 4
+  plans-four l h = lowest-at (wantedPlansFaults n g r bytes) 4 (omega arith) (inl (inr (inl (BytesFault.count h))))
+      (λ j f. ⊎-elim (λ s. absurd (none-lowest (sizeFaults n g r) l j s)) (λ h. h) (later j f))
+
+  -- the turns
+  pub judged-none : Lowest (sizeFaults n g r) 0 → AllJudged n g r bytes 0 0
+  judged-none l = record { count = 0; place = omega arith; lowest = joined-none (sizeFaults n g r) (λ i. columnsWanted n g r (planAt n bytes i)) 0 l }
+
+  module _ (whole : ℕ) (multiple : length bytes ≡ whole * n) (some : 1 ≤ n) where
+    -- a plan begins at a place within the bytes exactly if it is one of them
+    few : (i : ℕ) → i * n < whole * n → i < whole
+    few i h = by-cases (decLt i whole) (λ l. l) (λ l. absurd (omega (arith, mul-le-mul-right {m = whole} {n = i} n (omega arith))))
+
+    many : (i : ℕ) → i < whole → i * n + n ≤ length bytes
+    many i h = omega (arith, suc-mul i n, mul-le-mul-right {m = suc i} {n = whole} n h)
+
+    pub judged-room : {base k : ℕ} → AllJudged n g r bytes base k → base < length bytes → base + n ≤ length bytes
+    judged-room a h = omega (arith, a .place, many (a .count) (few (a .count) (omega (arith, a .place))))
+
+    pub judged-more : {base k number lowest : ℕ} {part : List ℕ} → AllJudged n g r bytes base lowest → part ≡ take n (drop base bytes)
+        → Lowest (columnsWanted n g r part) number → Lower lowest number k → AllJudged n g r bytes (base + n) k
+    judged-more {base} {k} {number} {lowest} {part} a e own low = record {
+      count = suc (a .count);
+      place = omega (arith, a .place, suc-mul (a .count) n);
+      lowest = joined (sizeFaults n g r) (λ i. columnsWanted n g r (planAt n bytes i)) (a .count) lowest k (a .lowest)
+          (record { number = number; own = subst (λ (c : List ℕ). Lowest (columnsWanted n g r c) number) (e ∙ ap (λ (b : ℕ). take n (drop b bytes)) (a .place)) own; lower = low });
+    }
+
+    pub judged-all : (k : ℕ) → AllJudged n g r bytes (length bytes) k → Lowest (wantedPlansFaults n g r bytes) k
+    judged-all k a = lowest-same (either (sizeFaults n g r) (EachPlan (a .count))) (wantedPlansFaults n g r bytes) k into onto (a .lowest)
+      where
+        inside : (i : ℕ) → i < a .count → HasPlan n bytes i
+        inside i h = omega (arith, a .place, mul-le-mul-right {m = suc i} {n = a .count} n h)
+
+        outside : (i : ℕ) → HasPlan n bytes i → i < a .count
+        outside i h = by-cases (decLt i (a .count)) (λ l. l) (λ l. absurd (omega (arith, a .place, suc-mul i n, mul-le-mul-right {m = a .count} {n = i} n (omega arith))))
+
+        into : (j : ℕ) → either (sizeFaults n g r) (EachPlan (a .count)) j → wantedPlansFaults n g r bytes j
+        into j (inl (inl s)) = inl (inl s)
+        into j (inl (inr f)) = inr (inl f)
+        into j (inr (i, (l, inl f))) = inl (inr (inr (i, (inside i l, f))))
+        into j (inr (i, (l, inr f))) = inr (inr (i, (inside i l, f)))
+
+        onto : (j : ℕ) → wantedPlansFaults n g r bytes j → either (sizeFaults n g r) (EachPlan (a .count)) j
+        onto j (inl (inl s)) = inl (inl s)
+        onto j (inl (inr (inl (BytesFault.count h)))) = absurd (h whole multiple)
+        onto j (inl (inr (inr (i, (l, f))))) = inr (i, (outside i l, inl f))
+        onto j (inr (inl f)) = inl (inr f)
+        onto j (inr (inr (i, (l, f)))) = inr (i, (outside i l, inr f))
+
+-- whether the bytes are a multiple of n
+pub multiple-of : (n len : ℕ) → 1 ≤ n → len % n ≡ 0 → len ≡ (len / n) * n
+multiple-of n len h e = omega (arith, div-add-mod' len n)
+
+pub no-multiple : (n len : ℕ) → 1 ≤ n → (len % n ≡ 0 → ⊥) → (count : ℕ) → len ≡ count * n → ⊥
+no-multiple n len h ne count e = ne (ap (λ (k : ℕ). k % n) (e ∙ sym (add-zero (count * n))) ∙ digits-mod count {m = n} {r = 0} h)

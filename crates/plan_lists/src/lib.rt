@@ -1,0 +1,124 @@
+// Lists of plans, as design records or as bytes: the lowest number that the sizes or any plan of the list is refused by, a resolution r being
+// wanted. Public for the smallest form's place in a list and for the book; a call that takes no resolution calls with r = 3 (`three-records`,
+// `three-plans`).
+ghost use mathlib.Core.Path.{_≡_};
+ghost use Prim.Native.Nat.{ℕ, _+_, _*_, _-_, _≤_, _<_};
+ghost use lib.ListN.{length};
+ghost use Rattle.regular.specs.Sizes.{Size};
+ghost use Rattle.regular.specs.Columns.{planOf};
+ghost use Rattle.regular.specs.Refusals.{Lowest, sizeFaults};
+ghost use Rattle.regular.specs.PlanLists.{wantedRecordsFaults, wantedPlansFaults};
+ghost use Rattle.measures.specs.Ready.{Ready};
+ghost use Rattle.plan_lists.specs.Judged.{Verdict, designWanted, columnsWanted, Joined, AllJudged};
+use admission::lower_of;
+use regular::Admitted;
+use regular::Design;
+
+// 1 to 3 if the sizes or the wanted resolution are out of bounds, else 0.
+fn sizes(n: usize, g: usize, r: usize) -> u8
+    ensures { λ k. ⌜ Lowest (sizeFaults n g r) k × (k ≡ 0 → Size n g) × (k ≤ 3) ⌝ }
+{
+    let number = admission::size_number(n, g);
+    if number != 0 {
+        return number;
+    }
+    if r < 3 {
+        return 3;
+    }
+    if 16 < r {
+        return 3;
+    }
+    0
+}
+
+// An admitted plan where the resolution r is wanted: its own number, or 7 if a word is shorter than r. An admitted plan has none shorter than 3.
+fn wanted(n: usize, g: usize, r: usize, plan: Admitted) -> u8
+    requires { ⌜ (plan .number ≡ 0 → Ready n g (plan .columns)) ⌝ }
+    ensures { λ k. ⌜ Verdict n r (planOf n (n - g) (plan .columns)) (plan .number) k ⌝ }
+{
+    let number = plan.number;
+    if number != 0 {
+        return number;
+    }
+    if r <= 3 {
+        return 0;
+    }
+    let columns = plan.columns;
+    let counts = measures::pattern(n, g, columns);
+    let resolution = bits::wide_byte(patterns::resolution_of(n, counts));
+    if resolution == 0 {
+        return 0;
+    }
+    if resolution < r {
+        return 7;
+    }
+    0
+}
+
+// The number of a design record.
+fn design_refusal(n: usize, g: usize, r: usize, design: Design) -> u8
+    ensures { λ k. ⌜ Lowest (designWanted n g r design) k ⌝ }
+{
+    let plan = admission::admit_design(n, g, design);
+    wanted(n, g, r, plan)
+}
+
+// The number of a list of columns.
+fn columns_refusal(n: usize, g: usize, r: usize, list: &[u8]) -> u8
+    ensures { λ k. ⌜ Lowest (columnsWanted n g r (now (list .entry))) k ⌝ }
+{
+    let plan = admission::admit_columns(n, g, list);
+    wanted(n, g, r, plan)
+}
+
+// One record more: the lower of its number and that of the records before it.
+fn judge(n: usize, g: usize, r: usize, design: Design, lowest: u8) -> u8
+    ensures { λ k. ⌜ Joined (designWanted n g r design) lowest k ⌝ }
+{
+    let number = design_refusal(n, g, r, design);
+    lower_of(lowest, number)
+}
+
+// The lowest number of any record of a list, or of the sizes.
+pub fn records_refusal(n: usize, g: usize, r: usize, list: &[Design]) -> u8
+    ensures { λ k. ⌜ Lowest (wantedRecordsFaults n g r (now (list .entry))) k ⌝ }
+{
+    let mut i: usize = 0;
+    let mut lowest = sizes(n, g, r);
+    while i < list.len() {
+        let d = list[i];
+        lowest = judge(n, g, r, d, lowest);
+        i += 1;
+    }
+    lowest
+}
+
+// The lowest number of any plan of a list of bytes that is a multiple of n, the sizes being in bounds.
+fn each_refusal(n: usize, g: usize, r: usize, plans: &[u8]) -> u8
+    requires { ⌜ (1 ≤ n) × Lowest (sizeFaults n g r) 0 × ((count : ℕ) × (length (now plans) ≡ count * n)) ⌝ }
+    ensures { λ k. ⌜ AllJudged n g r (now (plans .entry)) (length (now (plans .entry))) k ⌝ }
+{
+    let mut lowest: u8 = 0;
+    let mut base: usize = 0;
+    while base < plans.len() {
+        let end = base + n;
+        let number = columns_refusal(n, g, r, &plans[base..end]);
+        lowest = lower_of(lowest, number);
+        base = end;
+    }
+    lowest
+}
+
+// The lowest number of any plan of a list of bytes, n a plan, of its length, or of the sizes.
+pub fn plans_refusal(n: usize, g: usize, r: usize, plans: &[u8]) -> u8
+    ensures { λ k. ⌜ Lowest (wantedPlansFaults n g r (now (plans .entry))) k ⌝ }
+{
+    let number = sizes(n, g, r);
+    if number != 0 {
+        return number;
+    }
+    if plans.len() % n != 0 {
+        return 4;
+    }
+    each_refusal(n, g, r, plans)
+}

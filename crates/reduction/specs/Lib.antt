@@ -1,0 +1,3 @@
+pub mod Lending
+pub mod Settling
+pub mod Formed
