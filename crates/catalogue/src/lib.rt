@@ -94,22 +94,22 @@ pub fn list_catalogue(n: usize, g: usize, r: usize, out: &mut [u8]) -> Catalogue
     ensures { λ res. ⌜ ListsBytes n g r (now (out .entry)) (now (out .exit)) (res .number) (res .count) ⌝ }
 {
     let mut c = [0u8; 16];
-    let mut i: usize = 0;
+    let mut count: usize = 0;
     let mut base: usize = 0;
     loop {
         let room = n <= out.len() - base;
-        let s = advance(n, g, r, i, room, c);
+        let s = advance(n, g, r, count, room, c);
         if !s.found {
             return CatalogueAnswer {
                 number: s.number,
-                count: i,
+                count,
             };
         }
         let t = s.columns;
         put(n, t, base, out);
         c = t;
         base += n;
-        i += 1;
+        count += 1;
     }
 }
 

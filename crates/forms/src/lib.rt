@@ -149,9 +149,9 @@ pub fn runs_of_design(n: usize, g: usize, design: Design) -> RunsAnswer
 pub fn runs_of_words(n: usize, g: usize, words: &[u16]) -> RunsAnswer
     ensures { λ r. ⌜ Gives (wordsFaults n g (now (words .entry))) (RunsOfPlan n (n - g) RunTable (Generated n g (now (words .entry)))) (replicate 128 0) (r .number) (r .runs) ⌝ }
 {
-    let plan = admission::admit_words(n, g, words);
-    let columns = plan.columns;
-    runs_of(n, g, plan.number, columns)
+    let standard = admission::admit_words(n, g, words);
+    let columns = standard.columns;
+    runs_of(n, g, standard.number, columns)
 }
 
 // The runs of columns in a lent list, if their plan has no refusal.

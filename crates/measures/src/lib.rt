@@ -86,8 +86,7 @@ pub fn pattern_of_words(n: usize, g: usize, words: &[u16], out: &mut [u16]) -> u
     ensures { λ r. ⌜ Fills (either (wordsFaults n g (now (words .entry))) (LentFault n (now (out .entry)))) n
         (Pattern n (Generated n g (now (words .entry)))) (now (out .entry)) (now (out .exit)) r ⌝ }
 {
-    let plan = admission::admit_words(n, g, words);
-    lend_pattern(n, g, plan, out)
+    lend_pattern(n, g, admission::admit_words(n, g, words), out)
 }
 
 // .. of the plan of a design record.
@@ -95,8 +94,7 @@ pub fn pattern_of_design(n: usize, g: usize, design: Design, out: &mut [u16]) ->
     ensures { λ r. ⌜ Fills (either (designFaults n g design) (LentFault n (now (out .entry)))) n
         (Pattern n (planOf n (n - g) (design .columns))) (now (out .entry)) (now (out .exit)) r ⌝ }
 {
-    let plan = admission::admit_design(n, g, design);
-    lend_pattern(n, g, plan, out)
+    lend_pattern(n, g, admission::admit_design(n, g, design), out)
 }
 
 // .. of the plan of a list of columns.
@@ -104,8 +102,7 @@ pub fn pattern_of_columns(n: usize, g: usize, list: &[u8], out: &mut [u16]) -> u
     ensures { λ r. ⌜ Fills (either (columnsFaults n g (now (list .entry))) (LentFault n (now (out .entry)))) n
         (Pattern n (planOf n (n - g) (now (list .entry)))) (now (out .entry)) (now (out .exit)) r ⌝ }
 {
-    let plan = admission::admit_columns(n, g, list);
-    lend_pattern(n, g, plan, out)
+    lend_pattern(n, g, admission::admit_columns(n, g, list), out)
 }
 
 // .. of a run table.
@@ -113,40 +110,35 @@ pub fn pattern_of_runs(n: usize, g: usize, runs: &[u16], out: &mut [u16]) -> u8
     ensures { λ r. ⌜ Fills (either (runsFaults n g (now (runs .entry))) (LentFault n (now (out .entry)))) n
         (Pattern n (runsOf (now (runs .entry)))) (now (out .entry)) (now (out .exit)) r ⌝ }
 {
-    let plan = admission::admit_runs(n, g, runs);
-    lend_pattern(n, g, plan, out)
+    lend_pattern(n, g, admission::admit_runs(n, g, runs), out)
 }
 
 // The resolution of the plan that words generate.
 pub fn resolution_of_words(n: usize, g: usize, words: &[u16]) -> ResolutionAnswer
     ensures { λ r. ⌜ Gives (wordsFaults n g (now (words .entry))) (Resolution n (Generated n g (now (words .entry)))) 0 (r .number) (r .resolution) ⌝ }
 {
-    let plan = admission::admit_words(n, g, words);
-    resolution(n, g, plan)
+    resolution(n, g, admission::admit_words(n, g, words))
 }
 
 // .. of the plan of a design record.
 pub fn resolution_of_design(n: usize, g: usize, design: Design) -> ResolutionAnswer
     ensures { λ r. ⌜ Gives (designFaults n g design) (Resolution n (planOf n (n - g) (design .columns))) 0 (r .number) (r .resolution) ⌝ }
 {
-    let plan = admission::admit_design(n, g, design);
-    resolution(n, g, plan)
+    resolution(n, g, admission::admit_design(n, g, design))
 }
 
 // .. of the plan of a list of columns.
 pub fn resolution_of_columns(n: usize, g: usize, list: &[u8]) -> ResolutionAnswer
     ensures { λ r. ⌜ Gives (columnsFaults n g (now (list .entry))) (Resolution n (planOf n (n - g) (now (list .entry)))) 0 (r .number) (r .resolution) ⌝ }
 {
-    let plan = admission::admit_columns(n, g, list);
-    resolution(n, g, plan)
+    resolution(n, g, admission::admit_columns(n, g, list))
 }
 
 // .. of a run table.
 pub fn resolution_of_runs(n: usize, g: usize, runs: &[u16]) -> ResolutionAnswer
     ensures { λ r. ⌜ Gives (runsFaults n g (now (runs .entry))) (Resolution n (runsOf (now (runs .entry)))) 0 (r .number) (r .resolution) ⌝ }
 {
-    let plan = admission::admit_runs(n, g, runs);
-    resolution(n, g, plan)
+    resolution(n, g, admission::admit_runs(n, g, runs))
 }
 
 // The distance counts of the plan that words generate from its first run, in which every factor is high, in a lent list: of distance i at place i.
@@ -154,8 +146,7 @@ pub fn distances_of_words(n: usize, g: usize, words: &[u16], out: &mut [u16]) ->
     ensures { λ r. ⌜ Fills (either (wordsFaults n g (now (words .entry))) (LentFault (n + 1) (now (out .entry)))) (n + 1)
         (Distances n (Generated n g (now (words .entry))) 0) (now (out .entry)) (now (out .exit)) r ⌝ }
 {
-    let plan = admission::admit_words(n, g, words);
-    lend_distances(n, g, plan, out)
+    lend_distances(n, g, admission::admit_words(n, g, words), out)
 }
 
 // .. of the plan of a design record.
@@ -163,8 +154,7 @@ pub fn distances_of_design(n: usize, g: usize, design: Design, out: &mut [u16]) 
     ensures { λ r. ⌜ Fills (either (designFaults n g design) (LentFault (n + 1) (now (out .entry)))) (n + 1)
         (Distances n (planOf n (n - g) (design .columns)) 0) (now (out .entry)) (now (out .exit)) r ⌝ }
 {
-    let plan = admission::admit_design(n, g, design);
-    lend_distances(n, g, plan, out)
+    lend_distances(n, g, admission::admit_design(n, g, design), out)
 }
 
 // .. of the plan of a list of columns.
@@ -172,8 +162,7 @@ pub fn distances_of_columns(n: usize, g: usize, list: &[u8], out: &mut [u16]) ->
     ensures { λ r. ⌜ Fills (either (columnsFaults n g (now (list .entry))) (LentFault (n + 1) (now (out .entry)))) (n + 1)
         (Distances n (planOf n (n - g) (now (list .entry))) 0) (now (out .entry)) (now (out .exit)) r ⌝ }
 {
-    let plan = admission::admit_columns(n, g, list);
-    lend_distances(n, g, plan, out)
+    lend_distances(n, g, admission::admit_columns(n, g, list), out)
 }
 
 // .. of a run table, from its first run.
@@ -181,8 +170,7 @@ pub fn distances_of_runs(n: usize, g: usize, runs: &[u16], out: &mut [u16]) -> u
     ensures { λ r. ⌜ Fills (either (runsFaults n g (now (runs .entry))) (LentFault (n + 1) (now (out .entry)))) (n + 1)
         (Distances n (runsOf (now (runs .entry))) (getD (now (runs .entry)) 0 0)) (now (out .entry)) (now (out .exit)) r ⌝ }
 {
-    let plan = admission::admit_runs(n, g, runs);
-    lend_distances(n, g, plan, out)
+    lend_distances(n, g, admission::admit_runs(n, g, runs), out)
 }
 
 // A resolution by value, as the one place of a lent list.
@@ -205,8 +193,8 @@ pub fn list_resolution_of_words(n: usize, g: usize, words: &[u16], out: &mut [u8
     ensures { λ r. ⌜ Fills (either (wordsFaults n g (now (words .entry))) (LentFault 1 (now (out .entry)))) 1
         (λ zs. Resolution n (Generated n g (now (words .entry))) (getD zs 0 0)) (now (out .entry)) (now (out .exit)) r ⌝ }
 {
-    let answer = resolution_of_words(n, g, words);
-    lend_resolution(answer, out)
+    let plan = admission::admit_words(n, g, words);
+    lend_resolution(resolution(n, g, plan), out)
 }
 
 // The resolution of a list of columns, in a lent list of one place.
@@ -214,8 +202,8 @@ pub fn list_resolution_of_columns(n: usize, g: usize, list: &[u8], out: &mut [u8
     ensures { λ r. ⌜ Fills (either (columnsFaults n g (now (list .entry))) (LentFault 1 (now (out .entry)))) 1
         (λ zs. Resolution n (planOf n (n - g) (now (list .entry))) (getD zs 0 0)) (now (out .entry)) (now (out .exit)) r ⌝ }
 {
-    let answer = resolution_of_columns(n, g, list);
-    lend_resolution(answer, out)
+    let plan = admission::admit_columns(n, g, list);
+    lend_resolution(resolution(n, g, plan), out)
 }
 
 // The resolution of a run table, in a lent list of one place.
@@ -223,6 +211,6 @@ pub fn list_resolution_of_runs(n: usize, g: usize, runs: &[u16], out: &mut [u8])
     ensures { λ r. ⌜ Fills (either (runsFaults n g (now (runs .entry))) (LentFault 1 (now (out .entry)))) 1
         (λ zs. Resolution n (runsOf (now (runs .entry))) (getD zs 0 0)) (now (out .entry)) (now (out .exit)) r ⌝ }
 {
-    let answer = resolution_of_runs(n, g, runs);
-    lend_resolution(answer, out)
+    let plan = admission::admit_runs(n, g, runs);
+    lend_resolution(resolution(n, g, plan), out)
 }

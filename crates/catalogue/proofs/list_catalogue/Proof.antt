@@ -10,10 +10,10 @@ use Rattle.catalogue.proofs.list_catalogue.Statement.{statement}
 use Rattle.catalogue.proofs.list_catalogue.Tie as tie
 
 abbrev Inv-loop : tie.InvT-loop
-Inv-loop n g r out₀ c₀ i₀ base₀ out c i base = Filling n g r out₀ out i base c
+Inv-loop n g r out₀ c₀ count₀ base₀ out c count base = Filling n g r out₀ out count base c
 
 abbrev μ-loop : tie.MeasureT-loop
-μ-loop n g r out₀ c₀ i₀ base₀ out c i base = length out₀ - base
+μ-loop n g r out₀ c₀ count₀ base₀ out c count base = length out₀ - base
 
 loop-holds : tie.Need-loop-holds Inv-loop μ-loop
 loop-holds c = filling-none _ _ _ _ _
@@ -62,8 +62,8 @@ add-base c =
     let t = c .before .before .before .before .before .before .before .advance .ensures .goes (not-false _ (c .before .before .before .before .before .if1 .left)) in
     let h = filling-room _ _ _ _ _ _ _ _ x _ (x .size) _ t in search needs
 
-add-i : tie.Need-add-i Inv-loop μ-loop
-add-i c =
+add-count : tie.Need-add-count Inv-loop μ-loop
+add-count c =
     let a = c .before .before .before .before .before .before .before .before .before .before .args in
     let o = c .before .before .before .before .before .before .before .before in
     let x = o .loop .inv in
@@ -99,6 +99,6 @@ list-catalogue-spec =
     returns
     put-requires
     add-base
-    add-i
+    add-count
     loop-less
     loop-again)

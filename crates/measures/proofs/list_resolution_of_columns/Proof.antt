@@ -1,12 +1,17 @@
--- `measures::list_resolution_of_columns` meets its contract: the answer by value goes into the list. Assumes nothing.
+-- `measures::list_resolution_of_columns` meets its contract: the plan is admitted, and its resolution goes into the list. Assumes nothing.
 use borrow.Author.Needs.{needs}
 use Rattle.regular.specs.RefusalLaws.{columns-faults-most}
-use Rattle.measures.specs.Measured.{listed-fills}
+use Rattle.measures.specs.Measured.{ready, resolution-gives, listed-fills}
 use Rattle.measures.proofs.list_resolution_of_columns.Statement.{statement}
 use Rattle.measures.proofs.list_resolution_of_columns.Tie as tie
 
-resolution-of-columns-requires : tie.Need-resolution-of-columns-requires
-resolution-of-columns-requires c κs = search needs
+admit-columns-requires : tie.Need-admit-columns-requires
+admit-columns-requires c κs = search needs
+
+resolution-requires : tie.Need-resolution-requires
+resolution-requires c κs =
+    let p = c .admit-columns in
+    ready (p .ensures)
 
 lend-resolution-requires : tie.Need-lend-resolution-requires
 lend-resolution-requires c κs = search needs
@@ -16,10 +21,11 @@ same-length c = search needs
 
 returns : tie.Need-returns
 returns c =
-    let a = c .before .before .before .before .before .before .before .args in
-    listed-fills (columns-faults-most (a .n) (a .g) (a .list .now)) (c .before .before .before .before .resolution-of-columns .ensures) (c .before .before .lend-resolution .ensures)
+    let a = c .before .before .before .before .before .before .before .before .args in
+    let p = c .before .before .before .before .before .admit-columns in
+    let l = c .before .before .before .before .resolution in
+    listed-fills (columns-faults-most (a .n) (a .g) (a .list .now)) (resolution-gives (p .ensures) (l .ensures)) (c .before .before .lend-resolution .ensures)
 
 pub list-resolution-of-columns-spec : {M : Type 1} → statement M
 list-resolution-of-columns-spec =
-    tie.close
-    (tie.spec resolution-of-columns-requires lend-resolution-requires same-length returns)
+    tie.close (tie.spec admit-columns-requires resolution-requires lend-resolution-requires same-length returns)

@@ -1,12 +1,19 @@
--- `measures::list_resolution_of_runs` meets its contract: the answer by value goes into the list. Assumes nothing.
+-- `measures::list_resolution_of_runs` meets its contract: the plan with its first run switched to high is admitted; its resolution goes into the list. Assumes nothing.
 use borrow.Author.Needs.{needs}
+use lib.ListN.{getD}
+use Rattle.regular.specs.Runs.{runsOf}
 use Rattle.regular.specs.RefusalLaws.{runs-faults-most}
-use Rattle.measures.specs.Measured.{listed-fills}
+use Rattle.measures.specs.Measured.{ready, resolution-switches, listed-fills}
 use Rattle.measures.proofs.list_resolution_of_runs.Statement.{statement}
 use Rattle.measures.proofs.list_resolution_of_runs.Tie as tie
 
-resolution-of-runs-requires : tie.Need-resolution-of-runs-requires
-resolution-of-runs-requires c κs = search needs
+admit-runs-requires : tie.Need-admit-runs-requires
+admit-runs-requires c κs = search needs
+
+resolution-requires : tie.Need-resolution-requires
+resolution-requires c κs =
+    let p = c .admit-runs in
+    ready (p .ensures)
 
 lend-resolution-requires : tie.Need-lend-resolution-requires
 lend-resolution-requires c κs = search needs
@@ -16,9 +23,11 @@ same-length c = search needs
 
 returns : tie.Need-returns
 returns c =
-    let a = c .before .before .before .before .before .before .before .args in
-    listed-fills (runs-faults-most (a .n) (a .g) (a .runs .now)) (c .before .before .before .before .resolution-of-runs .ensures) (c .before .before .lend-resolution .ensures)
+    let a = c .before .before .before .before .before .before .before .before .args in
+    let p = c .before .before .before .before .before .admit-runs in
+    let l = c .before .before .before .before .resolution in
+    listed-fills (runs-faults-most (a .n) (a .g) (a .runs .now)) (resolution-switches (getD (a .runs .now) 0 0) (runsOf (a .runs .now)) (p .ensures) (l .ensures)) (c .before .before .lend-resolution .ensures)
 
 pub list-resolution-of-runs-spec : {M : Type 1} → statement M
 list-resolution-of-runs-spec =
-    tie.close (tie.spec resolution-of-runs-requires lend-resolution-requires same-length returns)
+    tie.close (tie.spec admit-runs-requires resolution-requires lend-resolution-requires same-length returns)
