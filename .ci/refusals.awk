@@ -93,21 +93,20 @@ function take_error(    place, need, text, name, names, k) {
     place = text
     sub(/: error: .*/, "", place)
     sub(/^.*: error: /, "", text)
-    need = quoted_after(text, "")
+    need = text
+    sub(/^`/, "", need)
+    sub(/`.*/, "", need)
     sub(/^`[^`]*`: /, "", text)
     if (text ~ /was not admitted/) return
-    if (place !~ /\/proofs\/[^\/]*\/[^\/]*$/) {
-        sub(/:[0-9]+:[0-9]+$/, "", place)
+    sub(/:[0-9]+:[0-9]+$/, "", place)
+    if (place !~ /\/proofs\/.*\/Proof\.antt$/) {
         if (!(need in laws)) { laws[need] = reason(text); law[++law_count] = need }
         return
     }
     name = place
-    sub(/.*\/proofs\//, "", name)
-    sub(/\/.*/, "", name)
-    k = split(name, names, "+")
-    if (k > 1 && need !~ /^\+/) {                        # a file of functions in a cycle: the need's name begins with the function's
-        for (; k > 1; k--) if (index(need, names[k] "-") == 1) break
-    }
+    sub(/\/Proof\.antt$/, "", name)
+    sub(/.*\//, "", name)
+    for (k = split(name, names, "+"); k > 1; k--) if (index(need, names[k] "-") == 1) break   # several functions in a cycle: the need names one
     name = names[k]
     if (!of_a_fact(need, text)) lost[name] = need
     text = reason(text)
