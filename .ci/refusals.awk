@@ -33,7 +33,7 @@ function side(s) {
 
 # Two sides that should be one.
 function sides(wanted, found) {
-    if (side(wanted) == "`..`" && side(found) == "`..`") return "not what is promised .."
+    if (side(wanted) == "`..`" && side(found) == "`..`") return "not what is promised"
     return side(wanted) " against " side(found)
 }
 
@@ -82,7 +82,7 @@ function of_a_fact(need, text) {
 
 # Of several needs that fail, the one that says most is kept: one said in full, then one of a return.
 function worth(need, said) {
-    return 2 * (said !~ /\.\.|does not follow/) + (need ~ /^returns/)
+    return 2 * (said !~ /\.\.|does not follow|not what is promised/) + (need ~ /^returns/)
 }
 
 # Takes up the error that was read last: its first line and the lines after it.
