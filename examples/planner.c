@@ -15,6 +15,7 @@ static const char usage[] =
     "planner smallest N G R COLUMNS        a plan's smallest form, and its place in the catalogue\n"
     "planner catalogue N G R               every plan of a size: columns, words, pattern\n"
     "planner runs N G R PLACE              the run table of an entry: + is high, - low\n"
+    "planner book N G R FILE               the catalogue as a book, in a file\n"
     "N factors, G generators, no word of fewer than R letters. Lists as 1,2,4,7.\n"
     "Exit status: 0, or 1 for plans that are different, or 2 if refused.\n";
 
@@ -222,36 +223,46 @@ static int print_runs(size_t n, size_t g, size_t r, size_t place)
     return DONE;
 }
 
-/* ---- smallest form */
-
-/* The place, from 1, of the columns in a catalogue; 0 if they are not there. */
-static size_t place_of(const uint8_t *columns, size_t n, size_t count)
+static int write_book(size_t n, size_t g, size_t r, const char *path)
 {
-    for (size_t i = 0; i < count; i++) {
-        if (memcmp(entries + i * n, columns, n) == 0) {
-            return i + 1;
-        }
+    static uint8_t book[PLAN_BOOK_HEAD + ROOM * PLAN_BOOK_ENTRY(PLAN_FACTORS)];
+    struct plan_entries found = catalogue(n, g, r);
+    if (found.number != PLAN_ACCEPTED) {
+        return refuse(found.number);
     }
-    return 0;
+    struct plan_bytes written = plan_write_book(n, g, r, entries, found.count * n, book, sizeof book);
+    if (written.number != PLAN_ACCEPTED) {
+        return refuse(written.number);
+    }
+    FILE *file = fopen(path, "wb");
+    if (file == NULL || fwrite(book, 1, written.count, file) != written.count || fclose(file) != 0) {
+        perror(path);
+        return REFUSED;
+    }
+    printf("%zu entries, %zu bytes\n", found.count, written.count);
+    return DONE;
 }
+
+/* ---- smallest form */
 
 static int print_smallest(size_t n, size_t g, size_t r, const char *text)
 {
     struct columns given = parse_columns(text);
-    uint8_t smallest[PLAN_FACTORS], witness[PLAN_FACTORS];
-    unsigned answer = plan_smallest_of_columns(n, g, given.bytes, given.count, smallest, PLAN_FACTORS, witness, PLAN_FACTORS);
-    if (answer != PLAN_ACCEPTED) {
-        return refuse(answer);
-    }
     struct plan_entries found = catalogue(n, g, r);
     if (found.number != PLAN_ACCEPTED) {
         return refuse(found.number);
+    }
+    uint8_t smallest[PLAN_FACTORS], witness[PLAN_FACTORS];
+    struct plan_place form = plan_smallest_of_columns(n, g, given.bytes, given.count, entries, found.count * n, smallest, PLAN_FACTORS,
+                                                      witness, PLAN_FACTORS);
+    if (form.number != PLAN_ACCEPTED) {
+        return refuse(form.number);
     }
     printf("columns");
     print_bytes(smallest, n);
     printf("\n");
     print_renaming(witness, n);
-    printf("place %zu of %zu\n", place_of(smallest, n, found.count), found.count);
+    printf("place %zu of %zu\n", form.place, found.count);
     return DONE;
 }
 
@@ -279,6 +290,9 @@ int main(int argc, char **argv)
     }
     if (is("runs", 4, argc, argv)) {
         return print_runs(parse_number(argv[2]), parse_number(argv[3]), parse_number(argv[4]), parse_number(argv[5]));
+    }
+    if (is("book", 4, argc, argv)) {
+        return write_book(parse_number(argv[2]), parse_number(argv[3]), parse_number(argv[4]), argv[5]);
     }
     fputs(usage, stderr);
     return REFUSED;

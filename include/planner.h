@@ -1,7 +1,7 @@
 /* planner.h: regular two-level plans (regular two-level fractional factorial designs).
  *
  * Plans in their three forms, words, columns and run tables; their pattern, resolution, distance counts and aberration; whether two plans
- * are the same; smallest forms; catalogues. For C and C++. Link with libplanner.a (pkg-config planner); it needs nothing but memcpy and
+ * are the same; smallest forms; catalogues; books. For C and C++. Link with libplanner.a (pkg-config planner); it needs nothing but memcpy and
  * memset. The functions have no state: they allocate nothing, keep no pointer, read and write nothing but the lists of the call, and may be
  * called from several threads at once. Every call ends and answers, whatever its numbers and lists hold.
  *
@@ -43,15 +43,16 @@
 #define PLAN_REFUSED_FACTORS 1
 /* G is at least N, or N - G is above 7. */
 #define PLAN_REFUSED_GENERATORS 2
-/* R is outside 3 to 16. Only calls that take R. */
+/* R is outside 3 to 16. Only plan_catalogue and plan_write_book. */
 #define PLAN_REFUSED_RESOLUTION 3
-/* A list has not G words, N columns or 2^M runs. */
+/* A list has not G words, N columns (several plans: a multiple of N) or 2^M runs. */
 #define PLAN_REFUSED_COUNT 4
 /* A column above 2^M - 1, or a bit past factor N in a word or a run. */
 #define PLAN_REFUSED_RANGE 5
 /* Words that are dependent (a word 0 among them), columns of rank below M, runs that are repeated or not regular. */
 #define PLAN_REFUSED_DEPENDENT 6
-/* A word of the plan, products of generators included, of fewer than three letters. A column 0 or repeated gives one. */
+/* A word of the plan, products of generators included, of fewer than three letters, or than R where it is taken with a plan. A column 0 or
+ * repeated gives one. */
 #define PLAN_REFUSED_SHORT_WORD 7
 /* A lent list has fewer places than its result. */
 #define PLAN_REFUSED_PLACES 8
@@ -135,15 +136,41 @@ uint32_t plan_compare_runs(size_t n, size_t g, const uint16_t *first, size_t fir
 uint32_t plan_check_witness(size_t n, size_t g, const uint16_t *first, size_t first_count, const uint16_t *second, size_t second_count,
                             const uint8_t *names, size_t name_count, uint16_t mask);
 
-/* The smallest form of the plan of the columns: among all lists of N rising columns of rank M whose plan is the same as this one, the list
- * that has the smaller column where it first differs from any other. Two plans of one N and G are the same exactly if their smallest forms
- * are equal.
+/* The smallest form of a plan: among all lists of N rising columns of rank M whose plan is the same as this one, the list that has the smaller
+ * column where it first differs from any other. Two plans of one N and G are the same exactly if their smallest forms are equal. The plan goes
+ * as its columns or as a run table.
+ *   list      plans that it is looked for in, such as a catalogue: their columns one plan after another, N bytes each; may be empty
  *   smallest  lent, N places: the columns of the smallest form, rising
- *   witness   lent, N places: factor f of the given plan becomes factor witness[f] of the smallest form, each of 0 to N - 1 being used once;
- *             this renaming turns the given columns' set of runs into that of the smallest form, and no levels are switched
- * PLAN_REFUSED_PLACES if either lent list has fewer than N places. */
-uint8_t plan_smallest_of_columns(size_t n, size_t g, const uint8_t *columns, size_t column_count, uint8_t *smallest, size_t smallest_places,
-                                 uint8_t *witness, size_t witness_places);
+ *   witness   lent, N places: factor f of the given plan becomes factor witness[f] of the smallest form, each of 0 to N - 1 being used once
+ * The answer is a number; the first place of the smallest form in the list, from 1, 0 if it is absent or the call refused; and for a run table
+ * the mask of factors of the smallest form whose levels are switched after renaming, 0 if refused. Renaming and then switching turn the given
+ * plan's set of runs into that of the smallest form; for columns no levels are switched. The list is refused as a plan is: PLAN_REFUSED_COUNT
+ * if its count is no multiple of N, PLAN_REFUSED_RANGE, _DEPENDENT or _SHORT_WORD for a fault of some plan in it. PLAN_REFUSED_PLACES if either
+ * lent list has fewer than N places. */
+struct plan_place {
+    uint8_t number;
+    size_t place;
+};
+
+struct plan_mask {
+    uint8_t number;
+    uint16_t mask;
+    size_t place;
+};
+
+struct plan_place plan_smallest_of_columns(size_t n, size_t g, const uint8_t *columns, size_t column_count, const uint8_t *list,
+                                           size_t list_count, uint8_t *smallest, size_t smallest_places, uint8_t *witness,
+                                           size_t witness_places);
+struct plan_mask plan_smallest_of_runs(size_t n, size_t g, const uint16_t *runs, size_t run_count, const uint8_t *list, size_t list_count,
+                                       uint8_t *smallest, size_t smallest_places, uint8_t *witness, size_t witness_places);
+
+/* The smallest forms of several plans in one call: their columns one plan after another, N bytes each, plan_count bytes in all.
+ *   forms      lent, plan_count places: the smallest form of each plan, at the places of the plan
+ *   witnesses  lent, plan_count places: the names of the witness from each plan to its smallest form, as above, at the places of the plan
+ * PLAN_REFUSED_COUNT if plan_count is no multiple of N; PLAN_REFUSED_PLACES if either lent list has fewer than plan_count places; the lowest
+ * number over all the plans. */
+uint8_t plan_smallest_of_plans(size_t n, size_t g, const uint8_t *plans, size_t plan_count, uint8_t *forms, size_t form_places,
+                               uint8_t *witnesses, size_t witness_places);
 
 /* The catalogue for N, G and R: every smallest form of N factors and G generators whose words all have at least R letters (a full factorial
  * has none), in dictionary order: the earlier of two entries has the smaller column where they first differ. So each plan of this size
@@ -161,6 +188,27 @@ struct plan_entries {
 };
 
 struct plan_entries plan_catalogue(size_t n, size_t g, size_t r, uint8_t *columns, size_t places);
+
+/* The book of several plans, in the order given: their columns one plan after another, N bytes each. A book is records, each a byte of kind
+ * and a body whose length the kind fixes; numbers of 16 bits stand low byte first:
+ *   0x01      N, G, R, then the count of plans in 16 bits
+ *   0x20 + N  the N columns of a plan as they are given
+ *   0x40 + N  the number of its words of each length from 3 to N, 16 bits each; nothing for N below 3
+ * One 0x01 comes first, then for each plan its two records: PLAN_BOOK_HEAD bytes, and PLAN_BOOK_ENTRY(N) a plan. The answer is a number and
+ * how many bytes of the lent list the book takes, 0 if refused:
+ *   PLAN_REFUSED_COUNT       plan_count is no multiple of N, or there are more than 65,535 plans
+ *   PLAN_REFUSED_SHORT_WORD  some plan has a word of fewer than R letters, or a column 0 or repeated
+ *   PLAN_REFUSED_PLACES      the lent list is shorter than the book
+ * and the other numbers up to PLAN_REFUSED_DEPENDENT as everywhere. */
+#define PLAN_BOOK_HEAD 6
+#define PLAN_BOOK_ENTRY(n) ((n) < 3 ? (n) + 2 : 3 * (n) - 2)
+
+struct plan_bytes {
+    uint8_t number;
+    size_t count;
+};
+
+struct plan_bytes plan_write_book(size_t n, size_t g, size_t r, const uint8_t *plans, size_t plan_count, uint8_t *book, size_t places);
 
 #ifdef __cplusplus
 }

@@ -11,8 +11,11 @@ use planner::{plan_compare_columns, PLAN_SAME};
 use std::hint::black_box;
 use std::time::Instant;
 
-/// Passes over a family: each pair counts at its fastest.
-const PASSES: usize = 5;
+/// Passes over a family, the three in turn in each: each pair counts at its fastest.
+const PASSES: usize = 15;
+
+/// The library, plain Rust and nauty.
+const ALL: [Decide; 3] = [by_the_library, by_plain_rust, by_nauty];
 
 /// Whether two plans are the same, by one of the three.
 type Decide = fn(usize, usize, &[u8], &[u8]) -> bool;
@@ -41,23 +44,29 @@ struct Time {
     worst: f64,
 }
 
-fn measure(family: &Family, decide: Decide) -> Time {
-    let g = family.n - family.m;
-    let mut fastest = vec![f64::INFINITY; family.pairs.len()];
+/// Decides every pair once, and keeps its time where it is the fastest so far.
+fn pass(family: &Family, decide: Decide, fastest: &mut [f64]) {
+    for ((first, second), fastest) in family.pairs.iter().zip(fastest) {
+        let start = Instant::now();
+        black_box(decide(family.n, family.n - family.m, black_box(first), black_box(second)));
+        *fastest = fastest.min(start.elapsed().as_secs_f64() * 1e6);
+    }
+}
+
+fn measure(family: &Family) -> [Time; 3] {
+    let mut fastest = ALL.map(|_| vec![f64::INFINITY; family.pairs.len()]);
     for _ in 0..PASSES {
-        for ((first, second), fastest) in family.pairs.iter().zip(&mut fastest) {
-            let start = Instant::now();
-            black_box(decide(family.n, g, black_box(first), black_box(second)));
-            *fastest = fastest.min(start.elapsed().as_secs_f64() * 1e6);
+        for (decide, fastest) in ALL.iter().zip(&mut fastest) {
+            pass(family, *decide, fastest);
         }
     }
-    Time { mean: fastest.iter().sum::<f64>() / fastest.len() as f64, worst: fastest.iter().copied().fold(0.0, f64::max) }
+    fastest.map(|times| Time { mean: times.iter().sum::<f64>() / times.len() as f64, worst: times.iter().copied().fold(0.0, f64::max) })
 }
 
 /// Fails unless all three decide every pair as the family says.
 fn confirm(family: &Family) {
     for (first, second) in &family.pairs {
-        for decide in [by_the_library as Decide, by_plain_rust, by_nauty] {
+        for decide in ALL {
             let found = decide(family.n, family.n - family.m, first, second);
             assert_eq!(found, family.same, "{}: {first:?} and {second:?}", family.kind);
         }
@@ -66,7 +75,7 @@ fn confirm(family: &Family) {
 
 fn print_row(family: &Family) {
     confirm(family);
-    let [ours, plain, nauty] = [by_the_library as Decide, by_plain_rust, by_nauty].map(|decide| measure(family, decide));
+    let [ours, plain, nauty] = measure(family);
     let Family { kind, n, m, same, pairs } = family;
     let answer = if *same { "same" } else { "different" };
     println!(

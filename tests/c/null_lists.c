@@ -87,17 +87,41 @@ static void print_two_plans(void)
           plan_check_witness(3, 1, runs, 0, runs, 0, names, 0, 0));
 }
 
-static void print_smallest_and_catalogue(void)
+/* The smallest form of one plan, by columns or by runs: no plan, no list to look in, which is accepted, no form, no witness, or none. */
+#define SMALLEST(call, plan, count)                                                                                                        \
+    print(#call ", no plan", call(3, 1, NULL, 0, columns, 3, bytes, 3, more_bytes, 3).number,                                              \
+          call(3, 1, plan, 0, columns, 3, bytes, 3, more_bytes, 3).number);                                                                \
+    print(#call ", no list", call(3, 1, plan, count, NULL, 0, bytes, 3, more_bytes, 3).number,                                             \
+          call(3, 1, plan, count, columns, 0, bytes, 3, more_bytes, 3).number);                                                            \
+    print(#call ", no form", call(3, 1, plan, count, columns, 3, NULL, 0, more_bytes, 3).number,                                           \
+          call(3, 1, plan, count, columns, 3, bytes, 0, more_bytes, 3).number);                                                            \
+    print(#call ", no witness", call(3, 1, plan, count, columns, 3, bytes, 3, NULL, 0).number,                                             \
+          call(3, 1, plan, count, columns, 3, bytes, 3, more_bytes, 0).number);                                                            \
+    print(#call ", none", call(3, 1, NULL, 0, NULL, 0, NULL, 0, NULL, 0).number,                                                           \
+          call(3, 1, plan, 0, columns, 0, bytes, 0, more_bytes, 0).number)
+
+static void print_smallest(void)
 {
-    print("plan_smallest_of_columns, no columns", plan_smallest_of_columns(3, 1, NULL, 0, bytes, 3, more_bytes, 3),
-          plan_smallest_of_columns(3, 1, columns, 0, bytes, 3, more_bytes, 3));
-    print("plan_smallest_of_columns, no form", plan_smallest_of_columns(3, 1, columns, 3, NULL, 0, more_bytes, 3),
-          plan_smallest_of_columns(3, 1, columns, 3, bytes, 0, more_bytes, 3));
-    print("plan_smallest_of_columns, no witness", plan_smallest_of_columns(3, 1, columns, 3, bytes, 3, NULL, 0),
-          plan_smallest_of_columns(3, 1, columns, 3, bytes, 3, more_bytes, 0));
-    print("plan_smallest_of_columns, none", plan_smallest_of_columns(3, 1, NULL, 0, NULL, 0, NULL, 0),
-          plan_smallest_of_columns(3, 1, columns, 0, bytes, 0, more_bytes, 0));
+    SMALLEST(plan_smallest_of_columns, columns, 3);
+    SMALLEST(plan_smallest_of_runs, runs, 4);
+    print("plan_smallest_of_plans, no plans", plan_smallest_of_plans(3, 1, NULL, 0, bytes, 3, more_bytes, 3),
+          plan_smallest_of_plans(3, 1, columns, 0, bytes, 3, more_bytes, 3));
+    print("plan_smallest_of_plans, no forms", plan_smallest_of_plans(3, 1, columns, 3, NULL, 0, more_bytes, 3),
+          plan_smallest_of_plans(3, 1, columns, 3, bytes, 0, more_bytes, 3));
+    print("plan_smallest_of_plans, no witnesses", plan_smallest_of_plans(3, 1, columns, 3, bytes, 3, NULL, 0),
+          plan_smallest_of_plans(3, 1, columns, 3, bytes, 3, more_bytes, 0));
+    print("plan_smallest_of_plans, none", plan_smallest_of_plans(3, 1, NULL, 0, NULL, 0, NULL, 0),
+          plan_smallest_of_plans(3, 1, columns, 0, bytes, 0, more_bytes, 0));
+}
+
+static void print_catalogue_and_book(void)
+{
     print("plan_catalogue, no room", plan_catalogue(3, 1, 3, NULL, 0).number, plan_catalogue(3, 1, 3, bytes, 0).number);
+    print("plan_write_book, no plans", plan_write_book(3, 1, 3, NULL, 0, bytes, PLAN_RUNS).number,
+          plan_write_book(3, 1, 3, columns, 0, bytes, PLAN_RUNS).number);
+    print("plan_write_book, no places", plan_write_book(3, 1, 3, columns, 3, NULL, 0).number,
+          plan_write_book(3, 1, 3, columns, 3, bytes, 0).number);
+    print("plan_write_book, neither", plan_write_book(3, 1, 3, NULL, 0, NULL, 0).number, plan_write_book(3, 1, 3, columns, 0, bytes, 0).number);
 }
 
 int main(void)
@@ -105,6 +129,7 @@ int main(void)
     print_one_plan();
     print_accepted();
     print_two_plans();
-    print_smallest_and_catalogue();
+    print_smallest();
+    print_catalogue_and_book();
     return 0;
 }

@@ -1,6 +1,7 @@
 //! The largest published counts of documents 000 and 002. Outside the gate: cargo test --release --features long --test long_catalogues
 
-use plan_tests::catalogues::{catalogue, compare_smallest};
+use plan_tests::catalogues::catalogue;
+use plan_tests::forms::compare_smallest;
 use plan_tests::known::in_other_basics;
 use plan_tests::random::Random;
 

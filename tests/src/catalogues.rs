@@ -1,12 +1,9 @@
-//! Calls for smallest forms and catalogues with guarded lists, held against the checking program.
+//! Calls for catalogues with guarded lists, held against the checking program.
 
 use crate::calls::{bytes, guarded, MARGIN};
-use crate::check::plan::Form;
-use crate::check::refusals::{accepted, of_sizes};
-use crate::check::renamings::is_witness;
-use crate::check::runs::runs_of_columns;
+use crate::check::refusals::of_sizes;
 use crate::check::smallest::{no_word_below, smallest};
-use crate::guarded::{plan_catalogue, plan_smallest_of_columns};
+use crate::guarded::plan_catalogue;
 use crate::known::every_plan;
 use std::collections::BTreeSet;
 
@@ -110,32 +107,4 @@ pub fn confirm_entries(m: usize, r: usize, entries: &Entries) {
         assert!(no_word_below(r, entry), "entry {k} has a word below {r}: {entry:?}");
         assert_eq!(smallest(m, entry), *entry, "entry {k} is not a smallest form");
     }
-}
-
-/// Compares one call for the smallest form of any list with the form that is expected of it if it is accepted: the answer, the columns, the
-/// witness run by run, and the places that it may not touch. Returns the answer.
-pub fn compare_smallest(n: usize, g: usize, columns: &[u32], form: &[u32], places: (usize, usize)) -> u8 {
-    let expected = match accepted(n, g, Form::Columns, columns).err().unwrap_or(0) {
-        0 if places.0 < n || places.1 < n => 8,
-        number => number,
-    };
-    let given = bytes(columns);
-    let (forms, names) = (guarded(places.0), guarded(places.1));
-    let (mut lent, mut witness) = (bytes(&forms), bytes(&names));
-    let (lists, ends) = ((&mut lent[MARGIN..], &mut witness[MARGIN..]), places);
-    let answer = plan_smallest_of_columns(n, g, &given, &mut lists.0[..ends.0], &mut lists.1[..ends.1]);
-    assert_eq!(answer, expected, "the smallest form of {columns:?}, {n} {g}, with {places:?} places");
-    assert_eq!(given, bytes(columns), "a call changed what it reads");
-    if answer != 0 {
-        assert!(lent == bytes(&forms) && witness == bytes(&names), "a refused call touched a list: {columns:?}, {n} {g}");
-        return answer;
-    }
-    let end = MARGIN + n;
-    let found: Vec<u32> = witness[MARGIN..end].iter().map(|&name| name.into()).collect();
-    let (first, second) = (runs_of_columns(n - g, columns), runs_of_columns(n - g, form));
-    assert_eq!(lent[MARGIN..end], bytes(form), "the smallest form of {columns:?}, {n} {g}");
-    assert!(is_witness(n, &first, &second, &found, 0), "no witness: {found:?} from {columns:?} to {form:?}");
-    let untouched = |list: &[u8], before: &[u32]| list[..MARGIN] == bytes(before)[..MARGIN] && list[end..] == bytes(before)[end..];
-    assert!(untouched(&lent, &forms) && untouched(&witness, &names), "places past the result: {columns:?}, {n} {g}");
-    answer
 }

@@ -2,7 +2,7 @@
 
 use crate::memory::{Lent, Read};
 use crate::records::timed;
-use planner::Entries;
+use planner::{Bytes, Entries, MaskedPlace, Place};
 
 /// Declares the function of the crate `planner` under its name: its sizes; the lists that it reads; the lists that it fills.
 macro_rules! guarded {
@@ -34,8 +34,11 @@ guarded!(plan_aberration_refusal(n, g; first: u16, second: u16;) -> u8);
 guarded!(plan_less_aberration(n, g; first: u16, second: u16;) -> u8);
 guarded!(plan_compare_columns(n, g; first: u8, second: u8; witness: u8) -> u32);
 guarded!(plan_compare_runs(n, g; first: u16, second: u16; witness: u8) -> u32);
-guarded!(plan_smallest_of_columns(n, g; columns: u8; smallest: u8, witness: u8) -> u8);
+guarded!(plan_smallest_of_columns(n, g; columns: u8, list: u8; smallest: u8, witness: u8) -> Place);
+guarded!(plan_smallest_of_runs(n, g; runs: u16, list: u8; smallest: u8, witness: u8) -> MaskedPlace);
+guarded!(plan_smallest_of_plans(n, g; plans: u8; forms: u8, witnesses: u8) -> u8);
 guarded!(plan_catalogue(n, g, r;; columns: u8) -> Entries);
+guarded!(plan_write_book(n, g, r; plans: u8; book: u8) -> Bytes);
 
 pub fn plan_check_witness(n: usize, g: usize, first: &[u16], second: &[u16], names: &[u8], mask: u16) -> u32 {
     let (first, second, names) = (Read::new(first), Read::new(second), Read::new(names));

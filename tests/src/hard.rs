@@ -15,7 +15,8 @@ fn numbers(text: &str) -> Vec<u32> {
     text.split_whitespace().map(|number| number.parse().unwrap_or_else(|_| panic!("no number: {number}"))).collect()
 }
 
-/// The pairs of data/alike-pairs.txt: different, although their patterns agree and their factors stand in as many words of each length.
+/// The pairs of data/alike-pairs.txt: different, although their patterns agree and their factors are low in as many runs of each
+/// number of low levels up to seven.
 pub fn alike_pairs() -> Vec<(Columns, Columns)> {
     let mut pairs = Vec::new();
     for line in include_str!("../data/alike-pairs.txt").lines().filter(|line| !line.starts_with('#')) {

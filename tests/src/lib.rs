@@ -3,15 +3,17 @@
 //! `check` is a separate checking program: document 01's definitions by plain enumeration. `guarded` calls the exported functions, through
 //! the crate `planner`, with lists that `memory` places against pages that may not be touched, and `records` keeps how long each took.
 //! `calls` makes one call on a plan with a guarded result list, `compare` holds its outcome against the checking program; `pairs` and
-//! `compare_pairs` do so for the comparison of two plans, `catalogues` for the smallest form and the catalogue. `random` is a small
-//! generator with a seed, `samples` makes plans from it, good and damaged, `known` and `hard` plans that are compared in pairs, and
+//! `compare_pairs` do so for the comparison of two plans, `forms` for the smallest form, `catalogues` for the catalogue, `books`
+//! for the book. `random` is a small generator with a seed, `samples` makes plans from it, good and damaged, `known` and `hard` plans that are compared in pairs, and
 //! `published` reads the rows of document 000's Appendix B. `trial` makes any number of calls of every function.
 
+pub mod books;
 pub mod calls;
 pub mod catalogues;
 pub mod check;
 pub mod compare;
 pub mod compare_pairs;
+pub mod forms;
 pub mod guarded;
 pub mod hard;
 pub mod known;

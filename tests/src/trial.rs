@@ -1,13 +1,15 @@
 //! Calls of every exported function, on inputs good and damaged, as many as wanted, each held against the checking program.
 
+use crate::books::{self, joined};
 use crate::calls::Given;
-use crate::catalogues::{compare_catalogue, compare_refused, compare_smallest, every_smallest_form, refusal, with_resolution, Entries};
+use crate::catalogues::{compare_catalogue, compare_refused, every_smallest_form, refusal, with_resolution, Entries};
+use crate::check::book::book;
 use crate::check::plan::Form;
 use crate::check::refusals::{accepted, lowest};
 use crate::check::renamings::is_witness;
-use crate::check::smallest::smallest;
 use crate::compare::{around, compare, compare_ranking, Lending, Tally};
 use crate::compare_pairs::{compare_any, Counts};
+use crate::forms::{compare_plans, compare_sought, form_of, Sought};
 use crate::hard::{alike_pairs, odd_weight, symmetric, Columns};
 use crate::known::{disguised, in_other_basics};
 use crate::pairs::{call_check, Pair, Verdict};
@@ -54,6 +56,7 @@ impl Trial {
             self.comparisons(&plan);
             self.witnesses(&plan);
             self.smallest_forms(&plan);
+            self.books(&plan);
             self.catalogues();
             for ((name, slow), before) in self.slow.iter_mut().zip(before) {
                 if slowest(name) > before {
@@ -154,15 +157,42 @@ impl Trial {
         }
     }
 
+    /// The plan in other names and basics, by columns and by runs, and several plans in one call. It is looked for in a list that has it.
     fn smallest_forms(&mut self, plan: &Sample) {
         let other = Sample { columns: self.scrambled(plan), ..*plan };
-        let Given { n, g, list, .. } = self.list(&other, Form::Columns);
-        let form = accepted(n, g, Form::Columns, &list).map_or(Vec::new(), |_| smallest(n - g, &list));
-        for places in around(plan.n) {
-            let others = around(plan.n);
-            let witness = others[self.random.below(others.len())];
-            compare_smallest(n, g, &list, &form, (places, witness));
+        for form in [Form::Columns, Form::Runs] {
+            let Given { n, g, list, .. } = self.list(&other, form);
+            let mut sought = Sought { n, g, form, plan: list, among: Vec::new() };
+            let smallest = form_of(&sought);
+            if self.random.below(2) == 0 {
+                sought.among = [self.list(plan, Form::Columns).list, smallest.clone()].concat();
+            }
+            for places in around(plan.n) {
+                compare_sought(&sought, &smallest, (places, self.near(plan.n)));
+            }
         }
+        let plans = [self.list(plan, Form::Columns), self.list(&other, Form::Columns)];
+        let both = [plans[0].list.clone(), plans[1].list.clone()].concat();
+        for places in around(both.len()) {
+            compare_plans(plans[0].n, plans[0].g, &both, (places, self.near(both.len())));
+        }
+    }
+
+    /// The book of the plan and of another of its size, for any R.
+    fn books(&mut self, plan: &Sample) {
+        let other = Sample { columns: columns(&mut self.random, plan.n, plan.m), ..*plan };
+        let (first, second) = (self.list(plan, Form::Columns), self.list(&other, Form::Columns));
+        let plans = joined(&[first.list, second.list]);
+        let r = self.random.between(2, 5);
+        for places in around(book(plan.n, plan.n - plan.m, r, &[plan.columns.clone(), other.columns]).len()) {
+            books::compare_any(first.n, first.g, r, &plans, places);
+        }
+    }
+
+    /// A length around the one that is enough.
+    fn near(&mut self, enough: usize) -> usize {
+        let lengths = around(enough);
+        lengths[self.random.below(lengths.len())]
     }
 
     /// A catalogue of few factors for lists around one of its entries and around all, and a size that is refused.

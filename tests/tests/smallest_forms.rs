@@ -1,16 +1,18 @@
-//! Smallest forms: of every small plan, of random plans in other names and basics, of a catalogue's entries, and refusals.
+//! Smallest forms: of every small plan, of random plans in other names and basics, of a catalogue's entries, of run tables, of several plans in one
+//! call; their first place in a list; and refusals.
 
 use plan_tests::calls::Given;
-use plan_tests::catalogues::{compare_smallest, entries, Entries};
+use plan_tests::catalogues::{entries, Entries};
 use plan_tests::check::columns::rank_is;
 use plan_tests::check::labels::label;
 use plan_tests::check::plan::Form;
 use plan_tests::check::refusals::accepted;
 use plan_tests::check::runs::runs_of_columns;
 use plan_tests::check::smallest::{every_rising_list, smallest};
+use plan_tests::forms::{compare_plans, compare_smallest, compare_sought, form_of, Sought};
 use plan_tests::known::{every_plan, in_other_basics};
 use plan_tests::random::Random;
-use plan_tests::samples::{columns, damaged, given, sample, short_sample};
+use plan_tests::samples::{columns, damaged, given, sample, short_sample, Sample};
 
 /// The same plan: the columns written in other basic factors, in another order.
 fn scrambled(random: &mut Random, m: usize, columns: &[u32]) -> Vec<u32> {
@@ -178,5 +180,157 @@ fn lists_of_every_length_are_enough_from_n_places_on() {
             let answer = compare_smallest(n, n - m, &plan, &form, lent);
             assert_eq!(answer == 8, lent.0 < n || lent.1 < n);
         }
+    }
+}
+
+fn columns_or_runs(random: &mut Random) -> Form {
+    if random.below(2) == 0 {
+        Form::Columns
+    } else {
+        Form::Runs
+    }
+}
+
+/// The plan as columns or as a run table, looked for in a list.
+fn sought(random: &mut Random, plan: &Sample, among: &[u32]) -> Sought {
+    let form = columns_or_runs(random);
+    let Given { n, g, list, .. } = given(random, plan, form);
+    Sought { n, g, form, plan: list, among: among.to_vec() }
+}
+
+#[test]
+fn a_smallest_form_is_found_at_its_place_in_the_catalogue() {
+    let mut random = Random::new(0x57);
+    for (n, m) in sizes() {
+        let entries = entries(n, n - m, 3, 1_000).1;
+        let among = entries.concat();
+        for _ in 0..10 {
+            let at = random.below(entries.len());
+            let plan = Sample { n, m, columns: scrambled(&mut random, m, &entries[at]) };
+            let lent = places(&mut random, n);
+            let call = sought(&mut random, &plan, &among);
+            assert_eq!(compare_sought(&call, &entries[at], lent).place, at + 1, "{:?}", plan.columns);
+        }
+    }
+}
+
+#[test]
+fn the_first_of_equal_places_counts_and_an_absent_form_has_place_0() {
+    let mut random = Random::new(0x58);
+    let (mut twice, mut absent) = (0, 0);
+    for _ in 0..400 {
+        let plan = sample(&mut random);
+        let form = smallest(plan.m, &plan.columns);
+        let mut list: Vec<Vec<u32>> = (0..random.below(6)).map(|_| columns(&mut random, plan.n, plan.m)).collect();
+        for _ in 0..random.below(4) {
+            list.insert(random.below(list.len() + 1), form.clone());
+        }
+        let held = list.iter().filter(|other| **other == form).count();
+        let lent = places(&mut random, plan.n);
+        let call = sought(&mut random, &plan, &list.concat());
+        let place = compare_sought(&call, &form, lent).place;
+        assert_eq!(place == 0, held == 0);
+        twice += usize::from(held > 1);
+        absent += usize::from(held == 0 && !list.is_empty());
+    }
+    assert!(twice > 50 && absent > 50, "{twice} {absent}");
+}
+
+#[test]
+fn only_equal_columns_count_as_a_place() {
+    for (among, place) in [
+        (&[][..], 0),
+        (&[1, 2, 4, 7, 8], 1),
+        (&[7, 4, 2, 1, 8], 0),
+        (&[1, 2, 3, 4, 8, 1, 2, 4, 7, 8, 1, 2, 4, 7, 8], 2),
+        (&[1, 2, 4, 8, 15], 0),
+    ] {
+        let call = Sought { n: 5, g: 1, form: Form::Columns, plan: vec![8, 4, 2, 14, 1], among: among.to_vec() };
+        assert_eq!(compare_sought(&call, &[1, 2, 4, 7, 8], (5, 5)).place, place, "{among:?}");
+    }
+}
+
+#[test]
+fn a_list_of_plans_is_refused_under_the_lowest_number_over_all_arguments() {
+    let good = [1, 2, 4, 7, 8];
+    let lists = [
+        (&[1, 2, 4][..], 4),
+        (&[1, 2, 4, 7, 8, 1], 4),
+        (&[1, 2, 4, 7, 16], 5),
+        (&[1, 2, 3, 4, 7], 6),
+        (&[1, 2, 4, 8, 8], 7),
+        (&[1, 2, 4, 8, 0], 7),
+    ];
+    let plans = [(&good[..], 0), (&[1, 2, 4, 8], 4), (&[1, 2, 4, 16, 8], 5), (&[1, 2, 3, 4, 5], 6), (&[1, 2, 4, 8, 1], 7)];
+    for (list, number) in lists {
+        for before in 0..3 {
+            let among = [good.repeat(before), list.to_vec(), good.to_vec()].concat();
+            for (plan, own) in plans {
+                for lent in [(5, 5), (4, 5), (5, 0)] {
+                    let call = Sought { n: 5, g: 1, form: Form::Columns, plan: plan.to_vec(), among: among.clone() };
+                    let answer = compare_sought(&call, &good, lent);
+                    assert_eq!(answer.number, if own == 0 { number } else { own.min(number) }, "{call:?}");
+                }
+            }
+        }
+    }
+}
+
+#[test]
+fn damaged_plans_and_lists_are_refused_by_either_form_and_every_number_is_reached() {
+    let mut random = Random::new(0x59);
+    let mut reached = [[0; 9]; 2];
+    for _ in 0..3_000 {
+        let plan = sample(&mut random);
+        let form = columns_or_runs(&mut random);
+        let good = given(&mut random, &plan, form);
+        let Given { n, g, list, .. } = if random.below(2) == 0 { damaged(&mut random, &good) } else { good };
+        let mut among: Vec<u32> = (0..random.below(3)).flat_map(|_| columns(&mut random, plan.n, plan.m)).collect();
+        if random.below(3) == 0 {
+            let other = given(&mut random, &plan, Form::Columns);
+            among.extend(damaged(&mut random, &other).list);
+        }
+        let short = random.below(4) == 0;
+        let lent = if short { (random.below(plan.n + 1), random.below(plan.n + 1)) } else { places(&mut random, plan.n) };
+        let call = Sought { n, g, form, plan: list, among };
+        reached[usize::from(form == Form::Runs)][compare_sought(&call, &form_of(&call), lent).number as usize] += 1;
+    }
+    for number in [0, 1, 2, 4, 5, 6, 7, 8] {
+        assert!(reached.iter().all(|by| by[number] > 0), "never answered {number}: {reached:?}");
+    }
+}
+
+#[test]
+fn several_plans_have_the_smallest_forms_of_the_checking_program_at_their_places() {
+    let mut random = Random::new(0x5a);
+    for _ in 0..150 {
+        let Sample { n, m, .. } = sample(&mut random);
+        let plans: Vec<u32> = (0..random.below(6)).flat_map(|_| columns(&mut random, n, m)).collect();
+        let lent = places(&mut random, plans.len());
+        assert_eq!(compare_plans(n, n - m, &plans, lent), 0);
+    }
+}
+
+#[test]
+fn several_plans_are_refused_as_one_and_no_form_is_written() {
+    let mut random = Random::new(0x5b);
+    let mut reached = [0; 9];
+    for _ in 0..1_500 {
+        let plan = sample(&mut random);
+        let good = given(&mut random, &plan, Form::Columns);
+        let bad = damaged(&mut random, &good);
+        let mut plans: Vec<u32> = (0..random.below(4)).flat_map(|_| columns(&mut random, plan.n, plan.m)).collect();
+        plans.extend(bad.list);
+        plans.extend(if random.below(2) == 0 { good.list } else { Vec::new() });
+        let least = plans.len().saturating_sub(2);
+        let lent = if random.below(4) == 0 {
+            (random.between(least, plans.len()), random.between(least, plans.len()))
+        } else {
+            places(&mut random, plans.len())
+        };
+        reached[compare_plans(bad.n, bad.g, &plans, lent) as usize] += 1;
+    }
+    for number in [0, 1, 2, 4, 5, 6, 7, 8] {
+        assert!(reached[number] > 0, "never answered {number}: {reached:?}");
     }
 }

@@ -46,7 +46,7 @@ fn look(found: usize, place: usize, c: Design, d: Design) -> usize
     if same_design(c, d) {
         return place;
     }
-    0
+    found
 }
 
 // The first place, from 1, of a record in a list, 0 if it is absent.
@@ -85,12 +85,12 @@ pub fn first_columns(n: usize, list: &[u8], c: [u8; 16]) -> usize
     ensures { λ r. ⌜ ColumnsPlace n (now (list .entry)) c r ⌝ }
 {
     let mut base: usize = 0;
-    let mut place: usize = 0;
+    let mut passed: usize = 0;
     while n <= list.len() - base {
-        place += 1;
         if same_at(n, list, base, c) {
-            return place;
+            return passed + 1;
         }
+        passed += 1;
         base += n;
     }
     0

@@ -3,7 +3,7 @@ use Prim.Native.Nat.{ℕ, zero, suc, _+_, _*_, _-_, _/_, _%_, _≤_, _<_}
 use mathlib.Core.Path.{_≡_, refl, sym, ap, subst, _∙_}
 use mathlib.Core.Logic.{_⊎_, inl, inr, ⊎-elim, by-cases}
 use mathlib.Core.List.{List}
-use native.Mathlib.Decide.{ℕ-discrete, decLt}
+use native.Mathlib.Decide.{decLt}
 use native.Mathlib.Nat.{add-zero, div-add-mod', mul-le-mul-right, suc-mul}
 use native.Mathlib.Numerals.{add-one}
 use native.Mathlib.Omega.{arith}
@@ -16,7 +16,7 @@ use Rattle.regular.specs.Words.{NoShort}
 use Rattle.regular.specs.Columns.{planOf}
 use Rattle.regular.specs.Designs.{blank}
 use Rattle.regular.specs.Pattern.{Pattern, Resolution}
-use Rattle.regular.specs.Refusals.{Short, SizeFault, ResolutionFault, ColumnsFault, WantedFault, either, Lowest, sizeFaults, designFaults, columnsFaults}
+use Rattle.regular.specs.Refusals.{SizeFault, ResolutionFault, ColumnsFault, WantedFault, either, Lowest, sizeFaults}
 use Rattle.regular.specs.RefusalLaws.{lowest-none, lowest-at, lowest-same, lowest-first, lowest-then, lowest-lower, none-lowest, size-most, list-is, columns-least, Lower}
 use Rattle.regular.specs.PlanLists.{planAt, HasPlan, BytesFault, ofSome, recordsFaults, plansFaults, wantedRecordsFaults, wantedPlansFaults}
 use Rattle.regular.specs.declared.Design.{Design}

@@ -13,6 +13,8 @@ ghost use Rattle.regular.specs.PlanLists.{plansFaults};
 ghost use Rattle.regular.specs.Same.{moved};
 ghost use Rattle.regular.specs.SmallestAnswers.{ReducesInto, ReducesEach};
 ghost use Rattle.regular.specs.Catalogues.{ListsBytes};
+ghost use Rattle.regular.specs.Book.{WritesPlans};
+use regular::BookAnswer;
 use regular::CatalogueAnswer;
 use regular::Checked;
 use regular::Compared;
@@ -325,4 +327,18 @@ pub extern "C" fn plan_catalogue(
     ensures { λ a. ⌜ ListsBytes n g r (now (columns .entry)) (now (columns .exit)) (a .number) (a .count) ⌝ }
 {
     catalogue::list_catalogue(n, g, r, columns)
+}
+
+// The book of several plans.
+#[no_mangle]
+pub extern "C" fn plan_write_book(
+    n: usize,
+    g: usize,
+    r: usize,
+    plans: &[u8],
+    book: &mut [u8],
+) -> BookAnswer
+    ensures { λ a. ⌜ WritesPlans n g r (now (plans .entry)) (now (book .entry)) (now (book .exit)) (a .number) (a .count) ⌝ }
+{
+    book::write_book(n, g, r, plans, book)
 }

@@ -12,3 +12,4 @@ pub mod Smallest
 pub mod SmallestAnswers
 pub mod Catalogues
 pub mod Comparisons
+pub mod Book

@@ -143,15 +143,48 @@ mod exported {
             mask: u16,
         ) -> u32;
         pub fn plan_catalogue(n: usize, g: usize, r: usize, columns: *mut u8, columns_count: usize) -> super::Entries;
+        pub fn plan_write_book(
+            n: usize,
+            g: usize,
+            r: usize,
+            plans: *const u8,
+            plans_count: usize,
+            book: *mut u8,
+            book_count: usize,
+        ) -> super::Bytes;
         pub fn plan_smallest_of_columns(
             n: usize,
             g: usize,
             columns: *const u8,
             columns_count: usize,
+            list: *const u8,
+            list_count: usize,
             smallest: *mut u8,
             smallest_count: usize,
             witness: *mut u8,
             witness_count: usize,
+        ) -> super::Place;
+        pub fn plan_smallest_of_runs(
+            n: usize,
+            g: usize,
+            runs: *const u16,
+            runs_count: usize,
+            list: *const u8,
+            list_count: usize,
+            smallest: *mut u8,
+            smallest_count: usize,
+            witness: *mut u8,
+            witness_count: usize,
+        ) -> super::MaskedPlace;
+        pub fn plan_smallest_of_plans(
+            n: usize,
+            g: usize,
+            plans: *const u8,
+            plans_count: usize,
+            forms: *mut u8,
+            forms_count: usize,
+            witnesses: *mut u8,
+            witnesses_count: usize,
         ) -> u8;
     }
 }
@@ -274,12 +307,45 @@ pub fn plan_check_witness(n: usize, g: usize, first: &[u16], second: &[u16], nam
     unsafe { exported::plan_check_witness(n, g, first.as_ptr(), count, second.as_ptr(), second.len(), names.as_ptr(), places, mask) }
 }
 
+/// The answer of a smallest form by columns: a refusal's number, 0 if accepted, and its first place in the list, from 1, 0 if absent.
+#[repr(C)]
+#[derive(Clone, Copy, Debug, PartialEq, Eq)]
+pub struct Place {
+    pub number: u8,
+    pub place: usize,
+}
+
+/// The answer of a smallest form by a run table: also the mask of the witness.
+#[repr(C)]
+#[derive(Clone, Copy, Debug, PartialEq, Eq)]
+pub struct MaskedPlace {
+    pub number: u8,
+    pub mask: u16,
+    pub place: usize,
+}
+
 /// The smallest form of the columns' plan, and a witness to it, for each factor of the given plan the factor of the smallest form that it
-/// becomes: N places each.
-pub fn plan_smallest_of_columns(n: usize, g: usize, columns: &[u8], smallest: &mut [u8], witness: &mut [u8]) -> u8 {
-    let (count, places, names) = (columns.len(), smallest.len(), witness.len());
+/// becomes: N places each. The list that it is looked for in holds N columns a plan.
+pub fn plan_smallest_of_columns(n: usize, g: usize, columns: &[u8], list: &[u8], smallest: &mut [u8], witness: &mut [u8]) -> Place {
+    let (count, among, places, names) = (columns.len(), list.len(), smallest.len(), witness.len());
+    let (smallest, witness) = (smallest.as_mut_ptr(), witness.as_mut_ptr());
+    // SAFETY: the lists are valid for the counts given with them, the lent ones overlap no other, and the call keeps none.
+    unsafe { exported::plan_smallest_of_columns(n, g, columns.as_ptr(), count, list.as_ptr(), among, smallest, places, witness, names) }
+}
+
+/// The same of the plan of a run table: the witness's mask is switched after its renaming.
+pub fn plan_smallest_of_runs(n: usize, g: usize, runs: &[u16], list: &[u8], smallest: &mut [u8], witness: &mut [u8]) -> MaskedPlace {
+    let (count, among, places, names) = (runs.len(), list.len(), smallest.len(), witness.len());
+    let (smallest, witness) = (smallest.as_mut_ptr(), witness.as_mut_ptr());
+    // SAFETY: the lists are valid for the counts given with them, the lent ones overlap no other, and the call keeps none.
+    unsafe { exported::plan_smallest_of_runs(n, g, runs.as_ptr(), count, list.as_ptr(), among, smallest, places, witness, names) }
+}
+
+/// The smallest forms of several plans, N columns each, one after another, and a witness to each: as many places as the plans have.
+pub fn plan_smallest_of_plans(n: usize, g: usize, plans: &[u8], forms: &mut [u8], witnesses: &mut [u8]) -> u8 {
+    let (count, places, names) = (plans.len(), forms.len(), witnesses.len());
     // SAFETY: the lists are valid for the counts given with them, they do not overlap, and the call keeps none.
-    unsafe { exported::plan_smallest_of_columns(n, g, columns.as_ptr(), count, smallest.as_mut_ptr(), places, witness.as_mut_ptr(), names) }
+    unsafe { exported::plan_smallest_of_plans(n, g, plans.as_ptr(), count, forms.as_mut_ptr(), places, witnesses.as_mut_ptr(), names) }
 }
 
 /// The catalogue's answer: a refusal's number, 0 if accepted, and how many entries the list holds.
@@ -294,4 +360,19 @@ pub struct Entries {
 pub fn plan_catalogue(n: usize, g: usize, r: usize, columns: &mut [u8]) -> Entries {
     // SAFETY: the list is valid for the count given with it, and the call does not keep it.
     unsafe { exported::plan_catalogue(n, g, r, columns.as_mut_ptr(), columns.len()) }
+}
+
+/// The writer's answer: a refusal's number, 0 if accepted, and how many bytes the book has, none if refused.
+#[repr(C)]
+#[derive(Clone, Copy, Debug, PartialEq, Eq)]
+pub struct Bytes {
+    pub number: u8,
+    pub count: usize,
+}
+
+/// The book of several plans, their columns one plan after another.
+pub fn plan_write_book(n: usize, g: usize, r: usize, plans: &[u8], book: &mut [u8]) -> Bytes {
+    let (count, places) = (plans.len(), book.len());
+    // SAFETY: the lists are valid for the counts given with them, they do not overlap, and the call keeps none.
+    unsafe { exported::plan_write_book(n, g, r, plans.as_ptr(), count, book.as_mut_ptr(), places) }
 }

@@ -6,6 +6,7 @@
 //! The smallest form is found by trying every order of basic factors.
 
 pub mod bits;
+pub mod book;
 pub mod columns;
 pub mod labels;
 pub mod measures;

@@ -68,6 +68,18 @@ pub fn accepted(n: usize, g: usize, form: Form, list: &[u32]) -> Result<Plan, u8
     Ok(plan)
 }
 
+/// The number under which several plans, N columns each, one after another, are refused, 0 if they are not.
+pub fn of_plans(n: usize, g: usize, list: &[u32]) -> u8 {
+    let sizes = of_sizes(n, g);
+    if sizes != 0 {
+        return sizes;
+    }
+    if list.len() % n != 0 {
+        return 4;
+    }
+    list.chunks(n).map(|plan| accepted(n, g, Form::Columns, plan).err().unwrap_or(0)).fold(0, lowest)
+}
+
 /// The lowest number that applies, over two arguments: 0 stands for none.
 pub fn lowest(first: u8, second: u8) -> u8 {
     if first == 0 || second == 0 {

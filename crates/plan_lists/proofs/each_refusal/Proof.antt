@@ -1,5 +1,5 @@
 -- `plan_lists::each_refusal` meets its contract: before each turn the plans in the first `base` bytes are judged; what is left falls. Assumes nothing.
-use mathlib.Core.Path.{_≡_, refl, sym, ap, subst, _∙_}
+use mathlib.Core.Path.{_≡_, ap, subst}
 use Prim.Native.Nat.{ℕ, _+_, _-_, _≤_}
 use native.Mathlib.Omega.{arith}
 use borrow.Author.Needs.{needs}

@@ -1,6 +1,6 @@
 -- `plan_lists::plans_refusal` meets its contract: the sizes, then the count of bytes, then each plan. Assumes nothing.
 use Prim.Native.Nat.{_/_}
-use mathlib.Core.Path.{_∙_, subst}
+use mathlib.Core.Path.{subst}
 use lib.ListN.{length}
 use native.Mathlib.Omega.{arith}
 use borrow.Author.Needs.{needs}

@@ -1,6 +1,6 @@
 -- `plan_lists::records_refusal` meets its contract: a walk of its MIR, by hand. A turn looks into the slice, copies record i out and calls `judge`, which
 -- is covered. The loop's state is i and the lowest number of the sizes and the first i records; its measure is the number of records left. Assumes nothing.
-use mathlib.Core.Path.{_≡_, refl, sym, ap, subst}
+use mathlib.Core.Path.{_≡_, refl, sym, ap}
 use mathlib.Core.Bool.{Bool, true, false}
 use mathlib.Core.WellFounded.{WellFounded, InvImage·wf}
 use Prim.Native.Nat.{ℕ, _+_, _-_, _*_, _≤_, _<_, _^_, zero-le}

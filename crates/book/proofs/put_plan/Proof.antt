@@ -1,0 +1,22 @@
+-- `book::put_plan` meets its contract: the pattern of the standard columns goes into the entry. Assumes nothing.
+use borrow.Author.Needs.{needs}
+use Rattle.book.proofs.put_plan.Statement.{statement}
+use Rattle.book.proofs.put_plan.Tie as tie
+
+pattern-requires : tie.Need-pattern-requires
+pattern-requires c κs = c .before .pre .0
+
+put-entry-requires : tie.Need-put-entry-requires
+put-entry-requires c κs = let s = c .before .before .before in (s .pre .0 .size .most, s .pre .1)
+
+same-length : tie.Need-same-length
+same-length c = search needs
+
+returns : tie.Need-returns
+returns c =
+    let q = c .before .before .put-entry in
+    let p = c .before .before .before .before .pattern in
+    record { counts = p .result; pattern = p .ensures; bytes = q .ensures .0; next = q .ensures .1 }
+
+pub put-plan-spec : {M : Type 1} → statement M
+put-plan-spec = tie.close (tie.spec pattern-requires put-entry-requires same-length returns)

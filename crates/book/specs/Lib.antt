@@ -1,0 +1,6 @@
+pub mod Over
+pub mod Writing
+pub mod WritingLaws
+pub mod PutLaws
+pub mod PlanLaws
+pub mod DesignLaws
