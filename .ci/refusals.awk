@@ -33,7 +33,7 @@ function side(s) {
 
 # Two sides that should be one.
 function sides(wanted, found) {
-    if (side(wanted) == "`..`" && side(found) == "`..`") return "not what is promised .."
+    if (side(wanted) == "`..`" && side(found) == "`..`") return "not what is promised"
     return side(wanted) " against " side(found)
 }
 
@@ -82,7 +82,7 @@ function of_a_fact(need, text) {
 
 # Of several needs that fail, the one that says most is kept: one said in full, then one of a return.
 function worth(need, said) {
-    return 2 * (said !~ /\.\.|does not follow/) + (need ~ /^returns/)
+    return 2 * (said !~ /\.\.|does not follow|not what is promised/) + (need ~ /^returns/)
 }
 
 # Takes up the error that was read last: its first line and the lines after it.
@@ -93,21 +93,20 @@ function take_error(    place, need, text, name, names, k) {
     place = text
     sub(/: error: .*/, "", place)
     sub(/^.*: error: /, "", text)
-    need = quoted_after(text, "")
+    need = text
+    sub(/^`/, "", need)
+    sub(/`.*/, "", need)
     sub(/^`[^`]*`: /, "", text)
     if (text ~ /was not admitted/) return
-    if (place !~ /\/proofs\/[^\/]*\/[^\/]*$/) {
-        sub(/:[0-9]+:[0-9]+$/, "", place)
+    sub(/:[0-9]+:[0-9]+$/, "", place)
+    if (place !~ /\/proofs\/.*\/Proof\.antt$/) {
         if (!(need in laws)) { laws[need] = reason(text); law[++law_count] = need }
         return
     }
     name = place
-    sub(/.*\/proofs\//, "", name)
-    sub(/\/.*/, "", name)
-    k = split(name, names, "+")
-    if (k > 1 && need !~ /^\+/) {                        # a file of functions in a cycle: the need's name begins with the function's
-        for (; k > 1; k--) if (index(need, names[k] "-") == 1) break
-    }
+    sub(/\/Proof\.antt$/, "", name)
+    sub(/.*\//, "", name)
+    for (k = split(name, names, "+"); k > 1; k--) if (index(need, names[k] "-") == 1) break   # several functions in a cycle: the need names one
     name = names[k]
     if (!of_a_fact(need, text)) lost[name] = need
     text = reason(text)
