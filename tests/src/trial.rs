@@ -23,6 +23,9 @@ const FORMS: [Form; 3] = [Form::Words, Form::Columns, Form::Runs];
 /// The most factors of the catalogues that are compared.
 const CATALOGUE_FACTORS: usize = 7;
 
+/// The most columns in a part of a list of plans: the checking program takes its time for each plan.
+const FEW: usize = 40;
+
 /// A trial: its generator, what it has come to, and what was worked out once for many calls.
 pub struct Trial {
     random: Random,
@@ -85,7 +88,7 @@ impl Trial {
         short_sample(random, &plan).unwrap_or(plan)
     }
 
-    /// The plan in a form, as it is or damaged once or twice, with one bit cleared in every number, or with another count of numbers, also one
+    /// The plan in a form, as it is or damaged once or twice, with one bit cleared in every number, with other sizes, or with another count of numbers, also one
     /// that has the right last digits.
     fn list(&mut self, plan: &Sample, form: Form) -> Given {
         let random = &mut self.random;
@@ -106,8 +109,19 @@ impl Trial {
                 let kept = !(1 << random.below(plan.m));
                 Given { list: good.list.iter().map(|number| number & kept).collect(), ..good }
             }
+            4 => {
+                let n = random.below(19);
+                Given { n, g: random.below(n + 2), ..good }
+            }
             _ => good,
         }
+    }
+
+    /// The plan by columns, damaged or not, as part of a list of few plans.
+    fn plans(&mut self, plan: &Sample) -> Given {
+        let mut part = self.list(plan, Form::Columns);
+        part.list.truncate(FEW);
+        part
     }
 
     fn forms_and_measures(&mut self, plan: &Sample) {
@@ -165,13 +179,13 @@ impl Trial {
             let mut sought = Sought { n, g, form, plan: list, among: Vec::new() };
             let smallest = form_of(&sought);
             if self.random.below(2) == 0 {
-                sought.among = [self.list(plan, Form::Columns).list, smallest.clone()].concat();
+                sought.among = [self.plans(plan).list, smallest.clone()].concat();
             }
             for places in around(plan.n) {
                 compare_sought(&sought, &smallest, (places, self.near(plan.n)));
             }
         }
-        let plans = [self.list(plan, Form::Columns), self.list(&other, Form::Columns)];
+        let plans = [self.plans(plan), self.plans(&other)];
         let both = [plans[0].list.clone(), plans[1].list.clone()].concat();
         for places in around(both.len()) {
             compare_plans(plans[0].n, plans[0].g, &both, (places, self.near(both.len())));
@@ -181,7 +195,7 @@ impl Trial {
     /// The book of the plan and of another of its size, for any R.
     fn books(&mut self, plan: &Sample) {
         let other = Sample { columns: columns(&mut self.random, plan.n, plan.m), ..*plan };
-        let (first, second) = (self.list(plan, Form::Columns), self.list(&other, Form::Columns));
+        let (first, second) = (self.plans(plan), self.plans(&other));
         let plans = joined(&[first.list, second.list]);
         let r = self.random.between(2, 5);
         for places in around(book(plan.n, plan.n - plan.m, r, &[plan.columns.clone(), other.columns]).len()) {
