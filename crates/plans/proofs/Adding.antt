@@ -1,21 +1,20 @@
 -- Adding text to a list: byte by byte, text after text, number after number; and the digits of a number.
 use mathlib.Core.Path.{_≡_, refl, sym, ap, _∙_, subst}
-use mathlib.Core.Bool.{Bool, cond, true, false}
+use mathlib.Core.Bool.{Bool, cond}
 use mathlib.Core.List.{List, [], _∷_, _++_, append-assoc, append-nil}
 use Prim.Native.Nat.{ℕ, zero, suc, _+_, _-_, _*_, _/_, _%_, _^_, _≤_, _<_}
 use native.Mathlib.Omega.{arith}
 use native.Mathlib.Nat.{pow-succ', add-zero, add-suc, le-of-eq}
 use native.Mathlib.Decide.{decLe}
-use mathlib.Core.Logic.{_⊎_, inl, inr, ⊎-elim, by-cases}
+use mathlib.Core.Logic.{_⊎_, ⊎-elim, by-cases}
 use native.Mathlib.Numerals.{add-one}
-use lib.Dec.{ltb}
 use borrow.Author.Tests.{lt-ltb, le-ltb}
 use Rattle.io.specs.Counts.{Counts}
 use Rattle.io.specs.Digits.{digits, glyph, Fewest}
 use lib.ListN.{length, getD, take, drop, set, length-set, length-append}
 use lib.Seq.{take-suc, take-suc-set, take-length, drop-append-le}
 use Rattle.plans.proofs.Counting.{taken, counts}
-use Rattle.plans.specs.Text.{Adds, decimal, digitsUpTo, next, spaced}
+use Rattle.plans.specs.Text.{Adds, digitsUpTo, next, spaced}
 
 -- nothing was added yet
 pub adds-none : (xs : List ℕ) (at : ℕ) → Adds xs xs at [] at

@@ -1,16 +1,11 @@
 -- Reading a line that gives a size: a digit, a number of one or two digits, and the three numbers of a size.
-use mathlib.Core.Path.{_≡_, refl, sym, ap, subst, _∙_}
+use mathlib.Core.Path.{_≡_, refl, sym, subst, _∙_}
 use mathlib.Core.Bool.{Bool, true, false}
 use mathlib.Core.List.{List, [], _∷_}
 use Prim.Native.Nat.{ℕ, zero, suc, _+_, _*_, _≤_, _<_}
-use native.Mathlib.Nat.{not-suc-le-zero, le-of-suc-le-suc, mul-le-mul-right, suc-mul}
-use native.Mathlib.Numerals.{add-one}
-use mathlib.Core.Logic.{inl, inr, by-cases}
+use native.Mathlib.Nat.{not-suc-le-zero, le-of-suc-le-suc}
 use lib.ListN.{length, getD}
-use native.Mathlib.Decide.{decLe}
 use native.Mathlib.Omega.{arith}
-use Rattle.regular.specs.Refusals.{factors}
-use Rattle.catalogue.specs.Lists.{ListsBytes}
 use Rattle.plans.specs.Lines.{Digit, Number, one, two, SizeLine, DigitIs, SpaceIs, Part, Parsed}
 
 clash : false ≡ true → ⊥

@@ -1,5 +1,4 @@
 -- What is printed of a catalogue: designs that are entries of it. Definitions only.
-use mathlib.Core.Path.{_≡_}
 use mathlib.Core.List.{List}
 use Prim.Native.Nat.{ℕ, _-_, _≤_, _<_}
 use lib.ListN.{getD}

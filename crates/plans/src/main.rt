@@ -41,7 +41,22 @@ fn read_byte() -> Got {
     if got == 1 { Got::Byte(b[0]) } else { Got::End }
 }
 
-// The bytes up to the line's end go to the start of line, as many as fit, and the rest of the line is left unread. Says how many.
+// Reads up to the line's end. A line of 2^64 bytes and more is read no further.
+fn skip_line() {
+    let mut left: u64 = 18446744073709551615;
+    while 0 < left {
+        let got = read_byte();
+        let Got::Byte(b) = got else {
+            return;
+        };
+        if b == b'\n' {
+            return;
+        }
+        left -= 1;
+    }
+}
+
+// The bytes up to the line's end go to the start of line, as many as fit; the others are read and dropped. Says how many.
 fn read_line(line: &mut [u8]) -> usize
     ensures { λ r. ⌜ Counts r (now (line .exit)) ⌝ }
 {
@@ -57,6 +72,7 @@ fn read_line(line: &mut [u8]) -> usize
         line[n] = b;
         n += 1;
     }
+    skip_line();
     n
 }
 

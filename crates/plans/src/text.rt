@@ -51,8 +51,8 @@ fn add_columns(n: usize, columns: [u8; 16], at: usize, out: &mut [u8]) -> usize
     let mut f: usize = 0;
     let mut end = at;
     while f < n {
-        let x = columns[f] as u64;
-        end = add_next(x, end, out);
+        let column = columns[f] as u64;
+        end = add_next(column, end, out);
         f += 1;
     }
     end
@@ -66,8 +66,8 @@ fn add_counts(n: usize, counts: [u16; 16], at: usize, out: &mut [u8]) -> usize
     let mut l: usize = 2;
     let mut end = at;
     while l < n {
-        let x = counts[l] as u64;
-        end = add_next(x, end, out);
+        let count = counts[l] as u64;
+        end = add_next(count, end, out);
         l += 1;
     }
     end

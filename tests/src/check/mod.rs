@@ -7,6 +7,7 @@
 
 pub mod bits;
 pub mod columns;
+pub mod growth;
 pub mod labels;
 pub mod measures;
 pub mod plan;

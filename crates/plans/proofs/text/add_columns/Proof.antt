@@ -18,11 +18,11 @@ abbrev μ-loop : tie.MeasureT-loop
 loop-holds : tie.Need-loop-holds Inv-loop μ-loop
 loop-holds c = (c .before .pre .0, omega arith, omega arith, c .before .pre .1, search needs, numbers-none _ _)
 
-array-read-x : tie.Need-array-read-x Inv-loop μ-loop
-array-read-x c = search needs
+array-read-column : tie.Need-array-read-column Inv-loop μ-loop
+array-read-column c = search needs
 
-cast-x : tie.Need-cast-x Inv-loop μ-loop
-cast-x c = search needs
+cast-column : tie.Need-cast-column Inv-loop μ-loop
+cast-column c = search needs
 
 add-next-requires : tie.Need-add-next-requires Inv-loop μ-loop
 add-next-requires c κs =
@@ -59,8 +59,8 @@ add-columns-spec =
     Inv-loop
     μ-loop
     loop-holds
-    array-read-x
-    cast-x
+    array-read-column
+    cast-column
     add-next-requires
     add-f
     loop-less

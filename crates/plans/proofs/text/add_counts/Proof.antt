@@ -19,14 +19,14 @@ abbrev μ-loop : tie.MeasureT-loop
 loop-holds : tie.Need-loop-holds Inv-loop μ-loop
 loop-holds c = (c .before .pre .0, inr refl, omega arith, omega arith, c .before .pre .1, search needs, adds-is (ap spaced (sym (third-none (c .before .args .t2) 2 (omega arith)))) (numbers-none _ _))
 
-mul-x : tie.Need-mul-x Inv-loop μ-loop
-mul-x c = search needs
+mul-count : tie.Need-mul-count Inv-loop μ-loop
+mul-count c = search needs
 
-array-read-x : tie.Need-array-read-x Inv-loop μ-loop
-array-read-x c = search needs
+array-read-count : tie.Need-array-read-count Inv-loop μ-loop
+array-read-count c = search needs
 
-cast-x : tie.Need-cast-x Inv-loop μ-loop
-cast-x c = search needs
+cast-count : tie.Need-cast-count Inv-loop μ-loop
+cast-count c = search needs
 
 add-next-requires : tie.Need-add-next-requires Inv-loop μ-loop
 add-next-requires c κs =
@@ -64,9 +64,9 @@ add-counts-spec =
     Inv-loop
     μ-loop
     loop-holds
-    mul-x
-    array-read-x
-    cast-x
+    mul-count
+    array-read-count
+    cast-count
     add-next-requires
     add-l
     loop-less
