@@ -91,7 +91,11 @@ pub fn every_catalogue(m: usize, n: usize) -> Vec<(usize, usize, Grown)> {
     let mut catalogues = grown(m, 3, n, ROOM);
     for r in 3..=16 {
         let whole = catalogues.iter().all(|catalogue| matches!(catalogue, Grown::All(_)));
-        catalogues = if whole { catalogues.iter().map(|catalogue| Grown::All(with_resolution(catalogue.forms(), r))).collect() } else { grown(m, r, n, ROOM) };
+        catalogues = if whole {
+            catalogues.iter().map(|catalogue| Grown::All(with_resolution(catalogue.forms(), r))).collect()
+        } else {
+            grown(m, r, n, ROOM)
+        };
         list.extend(catalogues.iter().enumerate().map(|(g, catalogue)| (m + g, r, catalogue.clone())));
     }
     list
@@ -101,7 +105,12 @@ pub fn every_catalogue(m: usize, n: usize) -> Vec<(usize, usize, Grown)> {
 pub fn compare_line(line: &str, expected: &str) {
     let found = printed(pipe_of(format!("{line}\n").as_bytes()));
     let first = found.lines().zip(expected.lines()).find(|(found, expected)| found != expected);
-    assert!(found == expected, "for '{line}': {} lines, not {}; the first that differ: {first:?}", found.lines().count(), expected.lines().count());
+    assert!(
+        found == expected,
+        "for '{line}': {} lines, not {}; the first that differ: {first:?}",
+        found.lines().count(),
+        expected.lines().count()
+    );
 }
 
 /// Compares every size of m basic factors and up to n factors. Returns how many are listed, how many refused by 9, and the entries in all.

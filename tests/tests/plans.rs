@@ -59,7 +59,9 @@ fn sizes_in_32_to_128_runs() {
 
 #[test]
 fn larger_sizes_whose_counts_are_published() {
-    for (n, m, r, count) in [(12, 5, 3, 89), (14, 5, 3, 128), (16, 5, 3, 145), (11, 6, 3, 273), (12, 6, 3, 700), (10, 7, 4, 33), (12, 7, 4, 249)] {
+    for (n, m, r, count) in
+        [(12, 5, 3, 89), (14, 5, 3, 128), (16, 5, 3, 145), (11, 6, 3, 273), (12, 6, 3, 700), (10, 7, 4, 33), (12, 7, 4, 249)]
+    {
         confirm_listing(n, m, r, count);
     }
 }
@@ -92,19 +94,73 @@ fn a_number_of_two_digits_may_begin_with_0() {
     for line in ["05 1 3", "5 01 3", "5 1 03", "05 01 03"] {
         compare_line(line, EXAMPLE);
     }
-    for (line, number) in [("00 0 3", 1), ("5 00 3", 0), ("5 1 00", 3), ("00 00 00", 1), ("05 05 3", 2)] {
-        let expected = if number == 0 { "catalogue 5 0 3 entries 1\n1 res 0 columns 1 2 4 8 16 pattern 0 0 0\n".to_string() } else { format!("refused {number}\n") };
-        compare_line(line, &expected);
+    compare_line("5 00 3", "catalogue 5 0 3 entries 1\n1 res 0 columns 1 2 4 8 16 pattern 0 0 0\n");
+    for (line, number) in [("00 0 3", 1), ("00 00 00", 1), ("05 05 3", 2), ("5 1 00", 3), ("5 1 02", 3)] {
+        compare_line(line, &format!("refused {number}\n"));
     }
 }
 
 #[test]
 fn lines_that_give_no_size() {
     let lines = [
-        "", " ", "5", "5 1", "5 1 ", "5 1 3 ", " 5 1 3", "5  1 3", "5 1  3", "5\t1\t3", "5 1\t3", "5 1 3\t", "5,1,3", "5 1 3 4", "5 1 3 ", "005 1 3", "5 001 3",
-        "5 1 003", "100 1 3", "5 100 3", "5 1 100", "+5 1 3", "5 +1 3", "5 1 +3", "-5 1 3", "5 -1 3", "5 1 -3", "-0 1 3", "5.0 1 3", "0x5 1 3", "5e0 1 3", "a 1 3",
-        "5 b 3", "5 1 c", "five 1 3", "5 1 3\r", "\r", "5\r1\r3", "5 1 3\0", "\05 1 3", "5\01\03", "5 \0 3", "\0", "5 1 3\x0b", "\x0c5 1 3", "5 1 3#", "5 1 3;", "/ 1 3",
-        "5 : 3", "5 1 :", "5 1 /", "16 16 16 ", "16 16 166", "16 16 16 16", "\u{feff}5 1 3", "5\u{a0}1 3", "\u{ff15} 1 3", "5 1 \u{b3}",
+        "",
+        " ",
+        "5",
+        "5 1",
+        "5 1 ",
+        "5 1 3 ",
+        " 5 1 3",
+        "5  1 3",
+        "5 1  3",
+        "5\t1\t3",
+        "5 1\t3",
+        "5 1 3\t",
+        "5,1,3",
+        "5 1 3 4",
+        "5 1 3 ",
+        "005 1 3",
+        "5 001 3",
+        "5 1 003",
+        "100 1 3",
+        "5 100 3",
+        "5 1 100",
+        "+5 1 3",
+        "5 +1 3",
+        "5 1 +3",
+        "-5 1 3",
+        "5 -1 3",
+        "5 1 -3",
+        "-0 1 3",
+        "5.0 1 3",
+        "0x5 1 3",
+        "5e0 1 3",
+        "a 1 3",
+        "5 b 3",
+        "5 1 c",
+        "five 1 3",
+        "5 1 3\r",
+        "\r",
+        "5\r1\r3",
+        "5 1 3\0",
+        "\05 1 3",
+        "5\01\03",
+        "5 \0 3",
+        "\0",
+        "5 1 3\x0b",
+        "\x0c5 1 3",
+        "5 1 3#",
+        "5 1 3;",
+        "/ 1 3",
+        "5 : 3",
+        "5 1 :",
+        "5 1 /",
+        "16 16 16 ",
+        "16 16 166",
+        "16 16 16 16",
+        "\u{feff}5 1 3",
+        "5\u{a0}1 3",
+        "\u{ff15} 1 3",
+        "5 1 \u{b3}",
     ];
     for line in lines {
         compare_line(line, NOT_A_SIZE);
@@ -138,7 +194,14 @@ fn the_input_may_end_without_a_newline() {
 #[test]
 fn what_follows_the_first_line_is_left_unread() {
     for rest in [&b"\n"[..], b"4 1 3\n", b"x", b"\0\xff\r\n\n", &[b'y'; 5_000]] {
-        for (line, text) in [("5 1 3", EXAMPLE), ("05 01 03", EXAMPLE), ("", NOT_A_SIZE), ("5 1 3 4", NOT_A_SIZE), ("012345678", NOT_A_SIZE), ("17 1 3", "refused 1\n")] {
+        for (line, text) in [
+            ("5 1 3", EXAMPLE),
+            ("05 01 03", EXAMPLE),
+            ("", NOT_A_SIZE),
+            ("5 1 3 4", NOT_A_SIZE),
+            ("012345678", NOT_A_SIZE),
+            ("17 1 3", "refused 1\n"),
+        ] {
             let bytes = [line.as_bytes(), b"\n", rest].concat();
             assert_eq!(printed_and_left(pipe_of(&bytes)), (text.to_string(), rest.to_vec()), "a pipe with '{line}'");
             let file = file_of(&format!("first_of_{}", bytes.len()), &bytes);
