@@ -28,7 +28,7 @@ pub fn every_smallest_form(n: usize, m: usize) -> Entries {
 }
 
 /// The forms without a word of fewer than r letters.
-pub fn with_resolution(forms: &Entries, r: usize) -> Entries {
+pub fn with_resolution(forms: &[Vec<u32>], r: usize) -> Entries {
     forms.iter().filter(|form| no_word_below(r, form)).cloned().collect()
 }
 

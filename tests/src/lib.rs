@@ -3,9 +3,10 @@
 //! `check` is a separate checking program: document 01's definitions by plain enumeration. `guarded` calls the exported functions, through
 //! the crate `planner`, with lists that `memory` places against pages that may not be touched, and `records` keeps how long each took.
 //! `calls` makes one call on a plan with a guarded result list, `compare` holds its outcome against the checking program; `pairs` and
-//! `compare_pairs` do so for the comparison of two plans, `forms` for the smallest form, `catalogues` for the catalogue, `books`
-//! for the book. `random` is a small generator with a seed, `samples` makes plans from it, good and damaged, `known` and `hard` plans that are compared in pairs, and
-//! `published` reads the rows of document 000's Appendix B. `trial` makes any number of calls of every function.
+//! `compare_pairs` do so for the comparison of two plans, `forms` for the smallest form, `catalogues` for the catalogue, `books` for the book,
+//! `program` for what the program `plans` prints. `random` is a small generator with a seed, `samples` makes plans from it, good and
+//! damaged, `known` and `hard` plans that are compared in pairs, and `published` reads the rows of document 000's Appendix B. `trial` makes
+//! any number of calls of every function.
 
 pub mod books;
 pub mod calls;
@@ -19,6 +20,7 @@ pub mod hard;
 pub mod known;
 pub mod memory;
 pub mod pairs;
+pub mod program;
 pub mod published;
 pub mod random;
 pub mod records;

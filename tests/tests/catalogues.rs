@@ -3,6 +3,7 @@
 use plan_tests::catalogues::{
     catalogue, compare_catalogue, compare_refused, confirm_entries, entries, every_smallest_form, refusal, with_resolution,
 };
+use plan_tests::check::growth::{grown, Grown};
 use plan_tests::check::labels::label;
 use plan_tests::check::runs::runs_of_columns;
 use plan_tests::check::smallest::{first_of_each_image, first_of_each_label};
@@ -34,6 +35,26 @@ fn the_checking_programs_forms_have_different_labels() {
         let labels: BTreeSet<Vec<u32>> = forms.iter().map(|form| label(n, &runs_of_columns(m, form))).collect();
         assert_eq!(labels.len(), forms.len(), "{n} factors, {m} basic");
     }
+}
+
+#[test]
+fn the_checking_programs_growth_finds_the_forms_that_it_enumerates() {
+    for (m, r) in (1..=7).flat_map(|m| (3..=6).map(move |r| (m, r))) {
+        for (g, catalogue) in grown(m, r, 8, 1_000).into_iter().enumerate() {
+            let enumerated = with_resolution(&every_smallest_form(m + g, m), r);
+            assert_eq!(catalogue, Grown::All(enumerated), "{} factors, {m} basic, resolution {r}", m + g);
+        }
+    }
+}
+
+#[test]
+fn the_checking_programs_growth_has_the_published_counts() {
+    let counts: Vec<usize> = grown(5, 3, 11, 1_000).iter().map(|catalogue| catalogue.forms().len()).collect();
+    assert_eq!(counts, [1, 4, 8, 15, 29, 46, 64]);
+    let counts: Vec<usize> = grown(6, 3, 10, 1_000).iter().map(|catalogue| catalogue.forms().len()).collect();
+    assert_eq!(counts, [1, 5, 14, 38, 105]);
+    let catalogues = grown(5, 3, 11, 50);
+    assert!(matches!(catalogues[5], Grown::All(_)) && matches!(catalogues[6], Grown::Some(_)), "64 entries are more than 50");
 }
 
 #[test]

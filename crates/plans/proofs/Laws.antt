@@ -1,16 +1,11 @@
 -- Reading a line that gives a size: a digit, a number of one or two digits, and the three numbers of a size.
-use mathlib.Core.Path.{_≡_, refl, sym, ap, subst, _∙_}
+use mathlib.Core.Path.{_≡_, refl, sym, subst, _∙_}
 use mathlib.Core.Bool.{Bool, true, false}
 use mathlib.Core.List.{List, [], _∷_}
 use Prim.Native.Nat.{ℕ, zero, suc, _+_, _*_, _≤_, _<_}
-use native.Mathlib.Nat.{not-suc-le-zero, le-of-suc-le-suc, mul-le-mul-right, suc-mul}
-use native.Mathlib.Numerals.{add-one}
-use mathlib.Core.Logic.{inl, inr, by-cases}
+use native.Mathlib.Nat.{not-suc-le-zero, le-of-suc-le-suc}
 use lib.ListN.{length, getD}
-use native.Mathlib.Decide.{decLe}
 use native.Mathlib.Omega.{arith}
-use Rattle.regular.specs.Refusals.{factors}
-use Rattle.regular.specs.Catalogues.{ListsBytes}
 use Rattle.plans.specs.Lines.{Digit, Number, one, two, SizeLine, DigitIs, SpaceIs, Part, Parsed}
 
 clash : false ≡ true → ⊥
@@ -161,14 +156,3 @@ gives l v e w f u k P Q R h i j S T z =
           };
       none = λ t. absurd (clash (sym t));
     }
-
--- one more entry of n columns has its place in the list
-pub one-more : (n i count len : ℕ) → i < count → count * n ≤ len → i * n + n ≤ len
-one-more n i count len h l = let a = ap (λ (k : ℕ). k * n) (add-one i) ∙ suc-mul i n in omega (arith, a, l, mul-le-mul-right {m = i + 1} {n = count} n (omega (arith, h)))
-
--- an accepted catalogue's entries stand in the list
-pub listed : (n g r : ℕ) (v w : List ℕ) (number count : ℕ) → ListsBytes n g r v w number count → number ≡ 0 → length v ≤ 16384
-    → (n ≤ 16) × (count * n ≤ length w) × (length w ≤ 16384)
-listed n g r v w number count x z h =
-    let most : n ≤ 16 = by-cases (decLe n 16) (λ l. l) (λ l. let a = x .catalogues .lowest .least 1 (inl (inl (factors (inr (omega (arith, l)))))) .0 in absurd (omega (arith, a, z))) in
-    (most, omega (arith, x .size, x .catalogues .fits z), omega (arith, x .size, h))

@@ -1,2 +1,5 @@
 pub mod Counting
 pub mod Laws
+pub mod Arrays
+pub mod Adding
+pub mod Entries

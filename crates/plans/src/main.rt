@@ -2,12 +2,18 @@
 ghost use mathlib.Core.Path.{_≡_};
 ghost use mathlib.Core.Bool.{false};
 ghost use Prim.Native.Nat.{ℕ, _+_, _*_, _≤_, _<_};
-ghost use lib.ListN.{length};
+ghost use lib.ListN.{length, replicate};
 ghost use Rattle.io.specs.Counts.{Counts};
+ghost use Rattle.regular.specs.Designs.{blank};
+ghost use Rattle.regular.specs.Catalogues.{ListsDesigns};
 ghost use Rattle.plans.specs.Lines.{DigitIs, SpaceIs, Part, Parsed};
-use catalogue::list_catalogue;
+ghost use Rattle.plans.specs.Listed.{Listable, AllListable};
 use libc::STDIN_FILENO;
 use libc::STDOUT_FILENO;
+use regular::CatalogueAnswer;
+use regular::Design;
+
+mod text;
 
 enum Got {
     Byte(u8),
@@ -35,7 +41,22 @@ fn read_byte() -> Got {
     if got == 1 { Got::Byte(b[0]) } else { Got::End }
 }
 
-// The bytes up to the line's end go to the start of line, as many as fit, and the rest of the line is left unread. Says how many.
+// Reads up to the line's end. A line of 2^64 bytes and more is read no further.
+fn skip_line() {
+    let mut left: u64 = 18446744073709551615;
+    while 0 < left {
+        let got = read_byte();
+        let Got::Byte(b) = got else {
+            return;
+        };
+        if b == b'\n' {
+            return;
+        }
+        left -= 1;
+    }
+}
+
+// The bytes up to the line's end go to the start of line, as many as fit; the others are read and dropped. Says how many.
 fn read_line(line: &mut [u8]) -> usize
     ensures { λ r. ⌜ Counts r (now (line .exit)) ⌝ }
 {
@@ -51,6 +72,7 @@ fn read_line(line: &mut [u8]) -> usize
         line[n] = b;
         n += 1;
     }
+    skip_line();
     n
 }
 
@@ -160,116 +182,79 @@ fn parse(line: &[u8]) -> Size
     }
 }
 
-// The room of 1,024 entries of n columns, of none where n is no size.
-fn places(n: usize) -> usize
-    ensures { λ r. ⌜ (r ≤ 16384) × (n ≤ 16 → r ≡ 1024 * n) ⌝ }
+// A catalogue: the answer, and the list that was lent for it.
+struct Filled {
+    answer: CatalogueAnswer,
+    list: [Design; 1024],
+}
+
+// The record that stands in the list at first.
+fn begin() -> Design
+    ensures { λ r. ⌜ r ≡ blank ⌝ }
 {
-    if 16 < n {
-        return 0;
-    }
-    1024 * n
-}
-
-// A number after a space.
-fn print_next(x: u64) {
-    io::write_all(STDOUT_FILENO, b" ");
-    io::print_decimal(STDOUT_FILENO, x);
-}
-
-// .. a byte, or a 16-bit number.
-fn print_byte(x: u8) {
-    print_next(x as u64);
-}
-
-fn print_count(x: u16) {
-    print_next(x as u64);
-}
-
-// The columns, each after a space.
-fn print_columns(list: &[u8]) {
-    let mut f: usize = 0;
-    while f < list.len() {
-        let x = list[f];
-        print_byte(x);
-        f += 1;
+    Design {
+        factors: 0,
+        basics: 0,
+        columns: [0u8; 16],
     }
 }
 
-// The counts of the words of three letters and more, each after a space.
-fn print_counts(list: &[u16]) {
-    let mut l: usize = 2;
-    while l < list.len() {
-        let x = list[l];
-        print_count(x);
-        l += 1;
-    }
-}
-
-// An entry's line: its place, resolution, columns and counts.
-fn print_entry(n: usize, g: usize, place: usize, list: &[u8])
-    requires { ⌜ n ≤ 16 ⌝ }
+// The catalogue of a size, in a list of 1,024 records, each d at first.
+fn fill(n: usize, g: usize, r: usize, d: Design) -> Filled
+    ensures { λ res. ⌜ ListsDesigns n g r (replicate 1024 d) (res .list) (res .answer .number) (res .answer .count) ⌝ }
 {
-    let answer = measures::resolution_of_columns(n, g, list);
-    let mut counts = [0u16; 16];
-    measures::pattern_of_columns(n, g, list, &mut counts);
-    io::print_decimal(STDOUT_FILENO, place as u64);
-    io::write_all(STDOUT_FILENO, b" res");
-    let resolution = answer.resolution;
-    print_byte(resolution);
-    io::write_all(STDOUT_FILENO, b" columns");
-    print_columns(list);
-    io::write_all(STDOUT_FILENO, b" pattern");
-    print_counts(&counts[..n]);
-    io::write_all(STDOUT_FILENO, b"\n");
+    let mut list = [d; 1024];
+    let answer = catalogue::catalogue(n, g, r, &mut list);
+    Filled { answer, list }
 }
 
-// The lines of the first count entries of a list, n columns each.
-fn print_entries(n: usize, g: usize, count: usize, list: &[u8])
-    requires { ⌜ (n ≤ 16) × (count * n ≤ length (now list)) × (length (now list) ≤ 16384) ⌝ }
+// An entry's line.
+fn print_entry(n: usize, g: usize, place: usize, d: Design)
+    requires { ⌜ Listable n g d ⌝ }
+{
+    let mut out = [0u8; 1024];
+    let k = text::entry_line(n, g, place, d, &mut out);
+    io::write_all(STDOUT_FILENO, &out[..k]);
+}
+
+// The lines of the first count records of a list.
+fn print_entries(n: usize, g: usize, count: usize, list: [Design; 1024])
+    requires { ⌜ (count ≤ 1024) × AllListable n g count list ⌝ }
 {
     let mut i: usize = 0;
-    let mut base: usize = 0;
     while i < count {
-        let end = base + n;
+        let d = list[i];
         i += 1;
-        print_entry(n, g, i, &list[base..end]);
-        base = end;
+        print_entry(n, g, i, d);
     }
 }
 
-// The header: the size and the entry count.
 fn print_header(n: usize, g: usize, r: usize, count: usize) {
-    io::write_all(STDOUT_FILENO, b"catalogue");
-    print_next(n as u64);
-    print_next(g as u64);
-    print_next(r as u64);
-    io::write_all(STDOUT_FILENO, b" entries");
-    print_next(count as u64);
-    io::write_all(STDOUT_FILENO, b"\n");
+    let mut out = [0u8; 1024];
+    let k = text::header_line(n, g, r, count, &mut out);
+    io::write_all(STDOUT_FILENO, &out[..k]);
 }
 
-// The catalogue of a size, worked out in a lent list, or the number that it is refused by.
-fn print_listed(n: usize, g: usize, r: usize, list: &mut [u8])
-    requires { ⌜ length (now list) ≤ 16384 ⌝ }
-{
-    let answer = list_catalogue(n, g, r, list);
+fn print_refused(number: u8) {
+    let mut out = [0u8; 1024];
+    let k = text::refused_line(number, &mut out);
+    io::write_all(STDOUT_FILENO, &out[..k]);
+}
+
+// The catalogue of a size, or the number that it is refused by.
+fn print_catalogue(n: usize, g: usize, r: usize) {
+    let d = begin();
+    let filled = fill(n, g, r, d);
+    let answer = filled.answer;
     let number = answer.number;
     if number != 0 {
-        io::write_all(STDOUT_FILENO, b"refused");
-        print_byte(number);
-        io::write_all(STDOUT_FILENO, b"\n");
+        print_refused(number);
         return;
     }
     let count = answer.count;
     print_header(n, g, r, count);
+    let list = filled.list;
     print_entries(n, g, count, list);
-}
-
-// .. in a list with the room of 1,024 entries.
-fn print_catalogue(n: usize, g: usize, r: usize) {
-    let mut list = [0u8; 16384];
-    let room = places(n);
-    print_listed(n, g, r, &mut list[..room]);
 }
 
 fn main() {

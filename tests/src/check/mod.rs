@@ -8,6 +8,7 @@
 pub mod bits;
 pub mod book;
 pub mod columns;
+pub mod growth;
 pub mod labels;
 pub mod measures;
 pub mod plan;

@@ -1,32 +1,39 @@
--- The room never passes the array's length. Assumes nothing.
-use Rattle.plans.proofs.Counting.{taken, prefix}
+-- An accepted catalogue's entries stand in the list. Assumes nothing.
 use borrow.Author.Needs.{needs}
+use Rattle.plans.proofs.Entries.{all-listable}
 use Rattle.plans.proofs.print_catalogue.Statement.{statement}
 use Rattle.plans.proofs.print_catalogue.Tie as tie
 
-places-requires : tie.Need-places-requires
-places-requires c κs = search needs
+begin-requires : tie.Need-begin-requires
+begin-requires c κs = search needs
 
-array-borrow-prefix-list : tie.Need-array-borrow-prefix-list
-array-borrow-prefix-list c = search needs
+fill-requires : tie.Need-fill-requires
+fill-requires c κs = search needs
 
-slice-aggregate-print-listed : tie.Need-slice-aggregate-print-listed
-slice-aggregate-print-listed c =
-    taken _ _ (c .before .places .ensures .0)
-
-print-listed-requires : tie.Need-print-listed-requires
-print-listed-requires c κs =
-    prefix _ _ _ (c .before .places .ensures .0) (c .before .places .ensures .0)
+print-refused-requires : tie.Need-print-refused-requires
+print-refused-requires c κs = search needs
 
 returns : tie.Need-returns
 returns c = search needs
+
+print-header-requires : tie.Need-print-header-requires
+print-header-requires c κs = search needs
+
+print-entries-requires : tie.Need-print-entries-requires
+print-entries-requires c κs =
+    all-listable _ _ _ _ _ _ _ (c .before .before .before .before .fill .ensures) (c .before .before .if1 .left)
+
+returns-2 : tie.Need-returns-2
+returns-2 c = search needs
 
 pub print-catalogue-spec : {M : Type 1} → statement M
 print-catalogue-spec =
     tie.close
     (tie.spec
-    places-requires
-    array-borrow-prefix-list
-    slice-aggregate-print-listed
-    print-listed-requires
-    returns)
+    begin-requires
+    fill-requires
+    print-refused-requires
+    returns
+    print-header-requires
+    print-entries-requires
+    returns-2)

@@ -49,6 +49,9 @@ loop-less c = search needs
 loop-again : tie.Need-loop-again Inv-loop μ-loop
 loop-again c = search needs
 
+skip-line-requires : tie.Need-skip-line-requires Inv-loop μ-loop
+skip-line-requires c κs = search needs
+
 same-length-3 : tie.Need-same-length-3 Inv-loop μ-loop
 same-length-3 c = search needs
 
@@ -73,5 +76,6 @@ read-line-spec =
     add-n
     loop-less
     loop-again
+    skip-line-requires
     same-length-3
     returns-3)

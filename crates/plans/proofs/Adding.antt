@@ -1,0 +1,144 @@
+-- Adding text to a list: byte by byte, text after text, number after number; and the digits of a number.
+use mathlib.Core.Path.{_≡_, refl, sym, ap, _∙_, subst}
+use mathlib.Core.Bool.{Bool, cond}
+use mathlib.Core.List.{List, [], _∷_, _++_, append-assoc, append-nil}
+use Prim.Native.Nat.{ℕ, zero, suc, _+_, _-_, _*_, _/_, _%_, _^_, _≤_, _<_}
+use native.Mathlib.Omega.{arith}
+use native.Mathlib.Nat.{pow-succ', add-zero, add-suc, le-of-eq}
+use native.Mathlib.Decide.{decLe}
+use mathlib.Core.Logic.{_⊎_, ⊎-elim, by-cases}
+use native.Mathlib.Numerals.{add-one}
+use borrow.Author.Tests.{lt-ltb, le-ltb}
+use Rattle.io.specs.Counts.{Counts}
+use Rattle.io.specs.Digits.{digits, glyph, Fewest}
+use lib.ListN.{length, getD, take, drop, set, length-set, length-append}
+use lib.Seq.{take-suc, take-suc-set, take-length, drop-append-le}
+use Rattle.plans.proofs.Counting.{taken, counts}
+use Rattle.plans.specs.Text.{Adds, digitsUpTo, next, spaced}
+
+-- nothing was added yet
+pub adds-none : (xs : List ℕ) (at : ℕ) → Adds xs xs at [] at
+adds-none xs at = record { text = sym (append-nil (take at xs)); place = omega arith; size = refl }
+
+-- one byte more
+pub adds-byte : (xs ys : List ℕ) (at : ℕ) (t : List ℕ) (end b : ℕ) → Adds xs ys at t end → end < length ys → Adds xs (set ys end b) at (t ++ (b ∷ [])) (end + 1)
+adds-byte xs ys at t end b a h =
+    record {
+      text =
+          ap (λ (k : ℕ). take k (set ys end b)) (add-one end) ∙ take-suc-set ys end b h ∙ ap (λ (l : List ℕ). l ++ (b ∷ [])) (a .text)
+          ∙ append-assoc (take at xs) t (b ∷ []);
+      place = omega (arith, a .place, length-append t (b ∷ []));
+      size = length-set ys end b ∙ a .size;
+    }
+
+-- text after text
+pub adds-more : {xs ys zs : List ℕ} {at mid end : ℕ} {t u : List ℕ} → Adds xs ys at t mid → Adds ys zs mid u end → Adds xs zs at (t ++ u) end
+adds-more {xs} {ys} {zs} {at} {mid} {end} {t} {u} a b =
+    record {
+      text = b .text ∙ ap (λ (l : List ℕ). l ++ u) (a .text) ∙ append-assoc (take at xs) t u;
+      place = omega (arith, a .place, b .place, length-append t u);
+      size = b .size ∙ a .size;
+    }
+
+pub adds-is : {xs ys : List ℕ} {at end : ℕ} {t u : List ℕ} → t ≡ u → Adds xs ys at t end → Adds xs ys at u end
+adds-is {xs} {ys} {at} {end} e a = subst (λ (l : List ℕ). Adds xs ys at l end) e a
+
+-- a turn of the loop over a text, and its end
+pub text-turn : (xs ys : List ℕ) (at : ℕ) (text : List ℕ) (i end : ℕ) → i < length text → end < length ys → Adds xs ys at (take i text) end
+    → Adds xs (set ys end (getD text i 0)) at (take (i + 1) text) (end + 1)
+text-turn xs ys at text i end h l a =
+    adds-is (sym (take-suc text i 0 h) ∙ ap (λ (k : ℕ). take k text) (sym (add-one i))) (adds-byte xs ys at (take i text) end (getD text i 0) a l)
+
+pub text-all : (xs ys : List ℕ) (at : ℕ) (text : List ℕ) (i end : ℕ) → i ≤ length text → length text ≤ i → Adds xs ys at (take i text) end → Adds xs ys at text end
+text-all xs ys at text i end h l a =
+    let e : i ≡ length text = omega arith in
+    adds-is (ap (λ (k : ℕ). take k text) e ∙ take-length text) a
+
+-- the digits of a number: `io::decimal` makes the fewest that hold it
+glyph-is : (d : ℕ) → d < 10 → glyph d ≡ 48 + d
+glyph-is d h = ap (λ (b : Bool). cond b (48 + d) (87 + d)) (lt-ltb d 10 h)
+
+one-digit : (k x : ℕ) → x < 10 → glyph (x % 10) ∷ [] ≡ digitsUpTo (suc k) x
+unfolding digitsUpTo
+one-digit k x h =
+    let low : x % 10 ≡ x = omega arith in
+    ap (λ (y : ℕ). glyph y ∷ []) low ∙ ap (λ (y : ℕ). y ∷ []) (glyph-is x h)
+    ∙ ap (λ (b : Bool). cond b ((48 + x) ∷ []) (digitsUpTo k (x / 10) ++ ((48 + x % 10) ∷ []))) (sym (lt-ltb x 10 h))
+
+more-digits : (k x : ℕ) (t : List ℕ) → 10 ≤ x → t ≡ digitsUpTo k (x / 10) → t ++ (glyph (x % 10) ∷ []) ≡ digitsUpTo (suc k) x
+unfolding digitsUpTo
+more-digits k x t h e =
+    ap (λ (l : List ℕ). l ++ (glyph (x % 10) ∷ [])) e ∙ ap (λ (y : ℕ). digitsUpTo k (x / 10) ++ (y ∷ [])) (glyph-is (x % 10) (omega arith))
+    ∙ ap (λ (b : Bool). cond b ((48 + x) ∷ []) (digitsUpTo k (x / 10) ++ ((48 + x % 10) ∷ []))) (sym (le-ltb x 10 h))
+
+minus-one : (k : ℕ) → suc k - 1 ≡ k
+minus-one k = omega arith
+
+ten-more : (r : ℕ) → 10 ^ suc r ≡ 10 * 10 ^ r
+ten-more r = pow-succ' 10 r
+
+ten-pos : (r : ℕ) → 1 ≤ 10 ^ r
+ten-pos zero = omega arith
+ten-pos (suc r) = omega (arith, ten-pos r, ten-more r)
+
+pub digits-are : (k r x : ℕ) → Fewest 10 1 x r → r ≤ k → digits 10 r x ≡ digitsUpTo k x
+digits-are k zero x f l = absurd (omega (arith, f .0))
+digits-are zero (suc r) x f l = absurd (omega arith)
+digits-are (suc k) (suc zero) x f l = one-digit k x (f .1)
+digits-are (suc k) (suc (suc r)) x f l =
+    let large : 10 ^ suc r ≤ x = subst (λ (k : ℕ). 10 ^ k ≤ x) (minus-one (suc r)) (f .2 (omega arith)) in
+    let p : 10 ^ suc r ≡ 10 * 10 ^ r = ten-more r in
+    let q : 10 ^ suc (suc r) ≡ 10 * 10 ^ suc r = ten-more (suc r) in
+    let o : 1 ≤ 10 ^ r = ten-pos r in
+    more-digits k x (digits 10 (suc r) (x / 10)) (omega (arith, large, p, o))
+    (digits-are k (suc r) (x / 10) (omega arith, omega (arith, f .1, q), λ _. subst (λ (k : ℕ). 10 ^ k ≤ x / 10) (sym (minus-one r)) (omega (arith, large, p))) (omega arith))
+
+-- a number of 64 bits has at most 20
+ten-mono : (i d : ℕ) → 10 ^ i ≤ 10 ^ (i + d)
+ten-mono i zero = le-of-eq (ap (λ (k : ℕ). 10 ^ k) (sym (add-zero i)))
+ten-mono i (suc d) = subst (λ (k : ℕ). 10 ^ i ≤ 10 ^ k) (sym (add-suc i d)) (omega (arith, ten-mono i d, ten-more (i + d)))
+
+pub few-digits : (x k : ℕ) → x < 2 ^ 64 → Fewest 10 1 x k → k ≤ 20
+few-digits x k h f =
+    by-cases (decLe k 20) (λ l. l)
+    (λ l. let e : 20 + (k - 21) ≡ k - 1 = omega arith in
+    let m : 10 ^ 20 ≤ 10 ^ (k - 1) = subst (λ (j : ℕ). 10 ^ 20 ≤ 10 ^ j) e (ten-mono 20 (k - 21)) in
+    let o : 10 ^ (k - 1) ≤ x = f .2 (omega arith) in
+    absurd (omega (arith, h, m, o)))
+
+-- the first line of a list
+pub line-of : {xs ys : List ℕ} {t : List ℕ} {k : ℕ} → Adds xs ys 0 t k → k ≤ length xs → Counts k ys × (take k ys ≡ t)
+line-of {xs} {ys} {t} {k} a h = (counts k ys (omega (arith, a .size, h)), a .text)
+
+-- one more number
+pub spaced-more : (xs : List ℕ) (x : ℕ) → spaced (xs ++ (x ∷ [])) ≡ spaced xs ++ next x
+unfolding spaced
+spaced-more [] x = append-nil (next x)
+spaced-more (y ∷ ys) x = ap (λ (l : List ℕ). next y ++ l) (spaced-more ys x) ∙ sym (append-assoc (next y) (spaced ys) (next x))
+
+pub numbers-none : (xs : List ℕ) (at : ℕ) → Adds xs xs at (spaced []) at
+unfolding spaced
+numbers-none = adds-none
+
+pub number-turn : {xs ys zs : List ℕ} {at mid end : ℕ} (t u : List ℕ) (x : ℕ) → Adds xs ys at (spaced t) mid → Adds ys zs mid (next x) end → u ≡ t ++ (x ∷ []) → Adds xs zs at (spaced u) end
+number-turn t u x a b e = adds-is (sym (spaced-more t x) ∙ ap spaced (sym e)) (adds-more a b)
+
+-- .. of a list from its start, and from its third place
+pub take-more : (xs : List ℕ) (f : ℕ) → f < length xs → take (f + 1) xs ≡ take f xs ++ (getD xs f 0 ∷ [])
+take-more xs f h = ap (λ (k : ℕ). take k xs) (add-one f) ∙ take-suc xs f 0 h
+
+pub third-more : (xs : List ℕ) (l : ℕ) → 2 ≤ l → l < length xs → drop 2 (take (l + 1) xs) ≡ drop 2 (take l xs) ++ (getD xs l 0 ∷ [])
+third-more xs l low h = ap (drop 2) (take-more xs l h) ∙ drop-append-le 2 (take l xs) (getD xs l 0 ∷ []) (omega (arith, taken l xs (omega arith)))
+
+pub third-none : (xs : List ℕ) (n : ℕ) → n ≤ 2 → drop 2 (take n xs) ≡ []
+third-none xs zero h = refl
+third-none [] (suc n) h = refl
+third-none (x ∷ xs) (suc zero) h = refl
+third-none (x ∷ []) (suc (suc n)) h = refl
+third-none (x ∷ y ∷ xs) (suc (suc zero)) h = refl
+third-none (x ∷ y ∷ xs) (suc (suc (suc n))) h = absurd (omega arith)
+
+pub third-all : (xs : List ℕ) (n l : ℕ) → n ≤ l → (l ≤ n) ⊎ (l ≡ 2) → drop 2 (take l xs) ≡ drop 2 (take n xs)
+third-all xs n l h =
+    ⊎-elim (λ k. let e : l ≡ n = omega arith in ap (λ (i : ℕ). drop 2 (take i xs)) e)
+    (λ k. third-none xs l (omega arith) ∙ sym (third-none xs n (omega arith)))

@@ -1,0 +1,75 @@
+-- The counts that were passed are added, each within 21 bytes; below three letters there is none. The measure is the lengths that are left. Assumes nothing.
+use mathlib.Core.Path.{_≡_, refl, sym, ap}
+use mathlib.Core.Logic.{_⊎_, inl, inr, ⊎-elim}
+use Prim.Native.Nat.{_+_, _*_, _≤_, _-_}
+use native.Mathlib.Omega.{arith}
+use lib.ListN.{length, take, drop}
+use Rattle.plans.specs.Text.{Adds, spaced}
+use Rattle.plans.proofs.Adding.{numbers-none, adds-is, number-turn, third-more, third-none, third-all}
+use borrow.Author.Needs.{needs}
+use Rattle.plans.proofs.text.add_counts.Statement.{statement}
+use Rattle.plans.proofs.text.add_counts.Tie as tie
+
+abbrev Inv-loop : tie.InvT-loop
+Inv-loop n at out₀ counts l₀ end₀ out l end = (n ≤ 16) × ((l ≤ n) ⊎ (l ≡ 2)) × (2 ≤ l) × (end ≤ at + 21 * (l - 2)) × (at + 21 * n ≤ length out₀) × (16 ≡ length counts) × Adds out₀ out at (spaced (drop 2 (take l counts))) end
+
+abbrev μ-loop : tie.MeasureT-loop
+μ-loop n at out₀ counts l₀ end₀ out l end = n - l
+
+loop-holds : tie.Need-loop-holds Inv-loop μ-loop
+loop-holds c = (c .before .pre .0, inr refl, omega arith, omega arith, c .before .pre .1, search needs, adds-is (ap spaced (sym (third-none (c .before .args .t2) 2 (omega arith)))) (numbers-none _ _))
+
+mul-count : tie.Need-mul-count Inv-loop μ-loop
+mul-count c = search needs
+
+array-read-count : tie.Need-array-read-count Inv-loop μ-loop
+array-read-count c = search needs
+
+cast-count : tie.Need-cast-count Inv-loop μ-loop
+cast-count c = search needs
+
+add-next-requires : tie.Need-add-next-requires Inv-loop μ-loop
+add-next-requires c κs =
+    let l = c .before .before .loop .inv in
+    omega (arith, l, l .6 .size, c .before .loop-test .taken)
+
+add-l : tie.Need-add-l Inv-loop μ-loop
+add-l c = search needs
+
+loop-less : tie.Need-loop-less Inv-loop μ-loop
+loop-less c = search needs
+
+loop-again : tie.Need-loop-again Inv-loop μ-loop
+loop-again c =
+    let a = c .before .before .before .before .before .before .before .args in
+    let l = c .before .before .before .before .before .loop in
+    let t = c .before .before .before .before .loop-test .taken in
+    let h = c .before .before .add-next .ensures in
+    (l .inv .0, inl (omega (arith, t)), omega (arith, l .inv .2), omega (arith, h .1, l .inv), l .inv .4, l .inv .5, number-turn _ _ _ (l .inv .6) (h .0) (third-more (a .t2) (l .l) (l .inv .2) (omega (arith, t, l .inv))))
+
+same-length : tie.Need-same-length Inv-loop μ-loop
+same-length c = search needs
+
+returns : tie.Need-returns Inv-loop μ-loop
+returns c =
+    let l = c .before .loop in
+    let a = c .before .before .before .args in
+    let e = third-all (a .t2) (a .n) (l .l) (omega (arith, c .loop-test .left)) (l .inv .1) in
+    (adds-is (ap spaced e) (l .inv .6), ⊎-elim (λ k. omega (arith, k, l .inv)) (λ k. omega (arith, k, l .inv)) (l .inv .1))
+
+pub add-counts-spec : {M : Type 1} → statement M
+add-counts-spec =
+    tie.close
+    (tie.spec
+    Inv-loop
+    μ-loop
+    loop-holds
+    mul-count
+    array-read-count
+    cast-count
+    add-next-requires
+    add-l
+    loop-less
+    loop-again
+    same-length
+    returns)

@@ -1,0 +1,77 @@
+-- The lines that are printed, as lists of bytes (document 01, "Examples on the whiteboard"). Definitions only.
+use mathlib.Core.Path.{_≡_}
+use mathlib.Core.Bool.{cond}
+use mathlib.Core.List.{List, [], _∷_, _++_}
+use Prim.Native.Nat.{ℕ, zero, suc, _+_, _-_, _/_, _%_}
+use lib.Dec.{ltb}
+use lib.ListN.{length, take, drop}
+use Rattle.regular.specs.Columns.{planOf}
+use Rattle.regular.specs.Pattern.{Pattern, Resolution}
+use Rattle.regular.specs.declared.Design.{Design}
+
+-- a number in decimal digits, none of them a leading zero; of at most k digits
+unfoldable pub digitsUpTo : ℕ → ℕ → List ℕ
+digitsUpTo zero x = []
+digitsUpTo (suc k) x = cond (ltb x 10) ((48 + x) ∷ []) (digitsUpTo k (x / 10) ++ ((48 + x % 10) ∷ []))
+
+abbrev pub decimal : ℕ → List ℕ
+decimal x = digitsUpTo 20 x
+
+-- a number after a space, and a list of numbers so
+abbrev pub next : ℕ → List ℕ
+next x = (32 ∷ []) ++ decimal x
+
+unfoldable pub spaced : List ℕ → List ℕ
+spaced [] = []
+spaced (x ∷ xs) = next x ++ spaced xs
+
+-- "\n", " res", " columns", " pattern", "catalogue", " entries", "refused"
+abbrev pub newline : List ℕ
+newline = 10 ∷ []
+
+abbrev pub res : List ℕ
+res = 32 ∷ 114 ∷ 101 ∷ 115 ∷ []
+
+abbrev pub columnsWord : List ℕ
+columnsWord = 32 ∷ 99 ∷ 111 ∷ 108 ∷ 117 ∷ 109 ∷ 110 ∷ 115 ∷ []
+
+abbrev pub patternWord : List ℕ
+patternWord = 32 ∷ 112 ∷ 97 ∷ 116 ∷ 116 ∷ 101 ∷ 114 ∷ 110 ∷ []
+
+abbrev pub catalogueWord : List ℕ
+catalogueWord = 99 ∷ 97 ∷ 116 ∷ 97 ∷ 108 ∷ 111 ∷ 103 ∷ 117 ∷ 101 ∷ []
+
+abbrev pub entriesWord : List ℕ
+entriesWord = 32 ∷ 101 ∷ 110 ∷ 116 ∷ 114 ∷ 105 ∷ 101 ∷ 115 ∷ []
+
+abbrev pub refusedWord : List ℕ
+refusedWord = 114 ∷ 101 ∷ 102 ∷ 117 ∷ 115 ∷ 101 ∷ 100 ∷ []
+
+-- the header: N, G, R, entry count
+abbrev pub header : ℕ → ℕ → ℕ → ℕ → List ℕ
+header n g r count = catalogueWord ++ next n ++ next g ++ next r ++ entriesWord ++ next count ++ newline
+
+-- the line of an entry: place, resolution, columns; then the counts for lengths 3 to n
+abbrev pub start : ℕ → ℕ → ℕ → List ℕ → List ℕ
+start n place resolution columns = decimal place ++ res ++ next resolution ++ columnsWord ++ spaced (take n columns)
+
+abbrev pub entry : ℕ → ℕ → ℕ → List ℕ → List ℕ → List ℕ
+entry n place resolution columns pattern = start n place resolution columns ++ patternWord ++ spaced (drop 2 (take n pattern)) ++ newline
+
+-- the line of a refusal
+abbrev pub refused : ℕ → List ℕ
+refused number = refusedWord ++ next number ++ newline
+
+-- the text t was added to the list `before` at place `at`, and ends at place `end` of `after`
+pub record Adds (before after : List ℕ) (at : ℕ) (t : List ℕ) (end : ℕ) : Type 0 where
+  pub text : take end after ≡ take at before ++ t
+  pub place : end ≡ at + length t
+  pub size : length after ≡ length before
+
+-- the line of the design d, the place-th entry: its resolution and pattern are those of its plan
+pub record EntryLine (n g place : ℕ) (d : Design) (t : List ℕ) : Type 0 where
+  pub resolution : ℕ
+  pub pattern : List ℕ
+  pub is-resolution : Resolution n (planOf n (n - g) (d .columns)) resolution
+  pub is-pattern : Pattern n (planOf n (n - g) (d .columns)) pattern
+  pub text : t ≡ entry n place resolution (d .columns) pattern
