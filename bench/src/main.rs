@@ -38,12 +38,6 @@ fn by_nauty(n: usize, g: usize, first: &[u8], second: &[u8]) -> bool {
     count == nauty::label(n, g, &second, &mut other) && one[..count] == other[..count]
 }
 
-/// Microseconds a pair, each pair at its fastest: the mean over the family, and the slowest pair.
-struct Time {
-    mean: f64,
-    worst: f64,
-}
-
 /// Decides every pair once, and keeps its time where it is the fastest so far.
 fn pass(family: &Family, decide: Decide, fastest: &mut [f64]) {
     for ((first, second), fastest) in family.pairs.iter().zip(fastest) {
@@ -53,14 +47,23 @@ fn pass(family: &Family, decide: Decide, fastest: &mut [f64]) {
     }
 }
 
-fn measure(family: &Family) -> [Time; 3] {
+/// Microseconds for each pair at its fastest, by each of the three.
+fn measure(family: &Family) -> [Vec<f64>; 3] {
     let mut fastest = ALL.map(|_| vec![f64::INFINITY; family.pairs.len()]);
     for _ in 0..PASSES {
         for (decide, fastest) in ALL.iter().zip(&mut fastest) {
             pass(family, *decide, fastest);
         }
     }
-    fastest.map(|times| Time { mean: times.iter().sum::<f64>() / times.len() as f64, worst: times.iter().copied().fold(0.0, f64::max) })
+    fastest
+}
+
+fn mean(times: &[f64]) -> f64 {
+    times.iter().sum::<f64>() / times.len() as f64
+}
+
+fn worst(times: &[f64]) -> f64 {
+    times.iter().copied().fold(0.0, f64::max)
 }
 
 /// Fails unless all three decide every pair as the family says.
@@ -76,19 +79,20 @@ fn confirm(family: &Family) {
 fn print_row(family: &Family) {
     confirm(family);
     let [ours, plain, nauty] = measure(family);
+    let behind = ours.iter().zip(&nauty).filter(|(ours, nauty)| ours > nauty).count();
     let Family { kind, n, m, same, pairs } = family;
     let answer = if *same { "same" } else { "different" };
     println!(
-        "| {kind} | {n} | {m} | {answer} | {} | {:.2} | {:.2} | {:.2} | {:.2} | {:.2} | {:.1} | {:.1} | {:.3} |",
+        "| {kind} | {n} | {m} | {answer} | {} | {:.2} | {:.2} | {:.2} | {:.2} | {:.2} | {:.1} | {:.1} | {:.3} | {behind} |",
         pairs.len(),
-        ours.mean,
-        ours.worst,
-        plain.mean,
-        plain.worst,
-        ours.mean / plain.mean,
-        nauty.mean,
-        nauty.worst,
-        ours.mean / nauty.mean,
+        mean(&ours),
+        worst(&ours),
+        mean(&plain),
+        worst(&plain),
+        mean(&ours) / mean(&plain),
+        mean(&nauty),
+        worst(&nauty),
+        mean(&ours) / mean(&nauty),
     );
 }
 
@@ -113,8 +117,8 @@ fn families() -> Vec<Family> {
 
 fn main() {
     println!(
-        "| pairs | N | M | answer | number | library | worst | plain Rust | worst | library / plain | nauty | worst | library / nauty |"
+        "| pairs | N | M | answer | number | library | worst | plain Rust | worst | library / plain | nauty | worst | library / nauty | behind |"
     );
-    println!("|---|---|---|---|---|---|---|---|---|---|---|---|---|");
+    println!("|---|---|---|---|---|---|---|---|---|---|---|---|---|---|");
     families().iter().for_each(print_row);
 }
