@@ -12,7 +12,7 @@ use std::hint::black_box;
 use std::time::Instant;
 
 /// Passes over a family, the three in turn in each: each pair counts at its fastest.
-const PASSES: usize = 15;
+const PASSES: usize = 5;
 
 /// The library, plain Rust and nauty.
 const ALL: [Decide; 3] = [by_the_library, by_plain_rust, by_nauty];
