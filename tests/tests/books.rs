@@ -131,7 +131,8 @@ fn a_full_factorial_meets_every_resolution() {
 
 #[test]
 fn a_book_has_65_535_plans_and_no_more() {
-    for (n, g, plan) in [(1, 0, vec![1]), (3, 1, vec![3, 1, 2]), (16, 9, vec![1, 2, 4, 8, 16, 32, 64, 7, 25, 42, 53, 75, 86, 97, 127, 112])] {
+    for (n, g, plan) in [(1, 0, vec![1]), (3, 1, vec![3, 1, 2]), (16, 9, vec![1, 2, 4, 8, 16, 32, 64, 7, 25, 42, 53, 75, 86, 97, 127, 112])]
+    {
         let (given, one) = (plan.iter().map(|&column| column as u8).collect::<Vec<u8>>(), entry(n, g, &plan));
         let expected = [header(n, g, 3, MOST_PLANS), one.repeat(MOST_PLANS)].concat();
         let plans = given.repeat(MOST_PLANS);

@@ -13,7 +13,10 @@ fn declared(text: &str, before: &str) -> BTreeSet<String> {
 
 #[test]
 fn the_header_declares_exactly_the_functions_that_the_tests_call() {
-    let header: BTreeSet<String> = ["uint8_t ", "uint32_t ", "struct plan_entries ", "struct plan_bytes "].iter().flat_map(|answer| declared(HEADER, answer)).collect();
+    let header: BTreeSet<String> = ["uint8_t ", "uint32_t ", "struct plan_entries ", "struct plan_bytes "]
+        .iter()
+        .flat_map(|answer| declared(HEADER, answer))
+        .collect();
     assert_eq!(header, declared(DECLARED, "pub fn "), "in the header, and in the tests");
     assert_eq!(header.len(), 22, "{header:?}");
 }
