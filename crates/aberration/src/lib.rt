@@ -8,23 +8,7 @@ ghost use Rattle.regular.specs.Columns.{planOf};
 ghost use Rattle.regular.specs.Pattern.{LessAberration};
 ghost use Rattle.regular.specs.Refusals.{wordsFaults, either, Lowest, Chooses, HandsBack};
 ghost use Rattle.measures.specs.Ready.{Ready};
-ghost use Rattle.regular.specs.RefusalLaws.{Lower};
-
-// The smaller of two refusals' numbers, 0 being none.
-fn lower_of(a: u8, b: u8) -> u8
-    ensures { λ r. ⌜ Lower a b r ⌝ }
-{
-    if a == 0 {
-        return b;
-    }
-    if b == 0 {
-        return a;
-    }
-    if b < a {
-        return b;
-    }
-    a
-}
+use admission::lower_of;
 
 // Whether the plan of the second standard columns has less aberration than that of the first.
 fn second_less(n: usize, g: usize, first: [u8; 16], second: [u8; 16]) -> bool

@@ -6,31 +6,15 @@ ghost use lib.Bits.{bitXor};
 ghost use Rattle.gf2.specs.Answers.{Tells};
 ghost use Rattle.regular.specs.Same.{moved};
 ghost use Rattle.regular.specs.Refusals.{runsFaults, either};
-ghost use Rattle.regular.specs.RefusalLaws.{Lower};
 ghost use Rattle.regular.specs.Comparisons.{Witness, Checks};
 ghost use Rattle.witness_check.specs.Names.{Named};
 ghost use Rattle.witness_check.specs.Partners.{Partnered, NoPartner};
+use admission::lower_of;
 use bits::level;
 use bits::power;
 use bits::wide;
 use bits::wide_byte;
 use regular::Checked;
-
-// The smaller of two refusals' numbers, 0 being none.
-fn lower_of(a: u8, b: u8) -> u8
-    ensures { λ r. ⌜ Lower a b r ⌝ }
-{
-    if a == 0 {
-        return b;
-    }
-    if b == 0 {
-        return a;
-    }
-    if b < a {
-        return b;
-    }
-    a
-}
 
 // Whether there are n names, each of the n factors being used once.
 fn each_once(n: usize, names: &[u8]) -> bool
