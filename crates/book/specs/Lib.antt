@@ -4,3 +4,4 @@ pub mod WritingLaws
 pub mod PutLaws
 pub mod PlanLaws
 pub mod DesignLaws
+pub mod Examples
