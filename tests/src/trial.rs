@@ -35,6 +35,8 @@ pub struct Trial {
     hard: Vec<Columns>,
     /// every smallest form, by N and M
     forms: BTreeMap<(usize, usize), Entries>,
+    /// whether to stay near the slowest: then the inputs depend on the time that calls take
+    pub seeking: bool,
     /// the plans on which these functions took the longest so far
     slow: [(&'static str, Sample); 2],
 }
@@ -46,7 +48,7 @@ impl Trial {
         let symmetric = symmetric().into_iter().map(|(_, plan)| plan);
         let hard = symmetric.chain(alike_pairs().into_iter().flat_map(|(first, second)| [first, second])).collect();
         let slow = ["plan_smallest_of_columns", "plan_compare_columns"].map(|name| (name, sample_of((1, vec![1]))));
-        Trial { random: Random::new(seed), tally: Tally::new(), counts: Counts::default(), hard, forms: BTreeMap::new(), slow }
+        Trial { random: Random::new(seed), tally: Tally::new(), counts: Counts::default(), hard, forms: BTreeMap::new(), seeking: false, slow }
     }
 
     /// Takes turns until this many calls are made.
@@ -62,7 +64,7 @@ impl Trial {
             self.books(&plan);
             self.catalogues();
             for ((name, slow), before) in self.slow.iter_mut().zip(before) {
-                if slowest(name) > before {
+                if self.seeking && slowest(name) > before {
                     *slow = plan.clone();
                 }
             }

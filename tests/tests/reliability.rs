@@ -6,7 +6,7 @@ use plan_tests::compare::ANSWERS;
 use plan_tests::records::records;
 use plan_tests::trial::Trial;
 
-const CALLS: u64 = 20_000;
+const CALLS: u64 = 40_000;
 
 #[test]
 fn a_sample_of_calls_is_answered_as_defined_without_touching_anything_else() {

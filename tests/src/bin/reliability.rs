@@ -16,7 +16,9 @@ fn argument(name: &str, otherwise: u64) -> u64 {
 }
 
 fn main() {
-    Trial::new(argument("--seed", 1)).run(argument("--calls", 1_000_000));
+    let mut trial = Trial::new(argument("--seed", 1));
+    trial.seeking = true;
+    trial.run(argument("--calls", 1_000_000));
     println!("| function | calls | slowest, microseconds | its input |");
     println!("|---|---|---|---|");
     for (name, record) in records() {
