@@ -48,7 +48,15 @@ impl Trial {
         let symmetric = symmetric().into_iter().map(|(_, plan)| plan);
         let hard = symmetric.chain(alike_pairs().into_iter().flat_map(|(first, second)| [first, second])).collect();
         let slow = ["plan_smallest_of_columns", "plan_compare_columns"].map(|name| (name, sample_of((1, vec![1]))));
-        Trial { random: Random::new(seed), tally: Tally::new(), counts: Counts::default(), hard, forms: BTreeMap::new(), seeking: false, slow }
+        Trial {
+            random: Random::new(seed),
+            tally: Tally::new(),
+            counts: Counts::default(),
+            hard,
+            forms: BTreeMap::new(),
+            seeking: false,
+            slow,
+        }
     }
 
     /// Takes turns until this many calls are made.

@@ -16,9 +16,10 @@ fn read(path: &Path) -> String {
 fn rows(page: &str, cells: usize) -> Vec<Vec<String>> {
     let lines: Vec<&str> = page.lines().collect();
     let is_rule = |line: &str| line.starts_with("|---");
-    let body = lines.iter().enumerate().filter(|&(i, line)| {
-        line.starts_with('|') && !is_rule(line) && !lines.get(i + 1).is_some_and(|next| is_rule(next))
-    });
+    let body = lines
+        .iter()
+        .enumerate()
+        .filter(|&(i, line)| line.starts_with('|') && !is_rule(line) && !lines.get(i + 1).is_some_and(|next| is_rule(next)));
     let split = body.map(|(_, line)| line.trim_matches('|').split('|').map(|cell| cell.trim().to_string()).collect::<Vec<_>>());
     split.filter(|row| row.len() == cells).collect()
 }
