@@ -67,6 +67,8 @@ function reason(text,    part) {
     if (index(part, "computed as far as they go")) sub(/.*computed as far as they go/, "", part)
     if (index(part, "the other has"))
         return sides(quoted_after(part, "where one has"), quoted_after(part, "the other has"))
+    if (index(text, "the two indices are"))
+        return sides(quoted_after(text, "the two indices are"), quoted_after(text, "(the constructor's) and"))
     if (text ~ /no proof of `reads\.Post /) return "no proof of what the contract promises"
     if (index(text, "no proof of ")) return "no proof of " side(quoted_after(text, "no proof of "))
     if (index(text, "but this has type"))
@@ -77,7 +79,7 @@ function reason(text,    part) {
 # Whether an error says that a fact does not hold.
 function of_a_fact(need, text) {
     if (need ~ /-spec$/) return 0
-    return text ~ /the goal does not follow|no proof of|the two (types|sides) (first )?differ|but this has type|are absurd/
+    return text ~ /the goal does not follow|no proof of|the two (types|sides) (first )?differ|the two indices are|but this has type|are absurd/
 }
 
 # Of several needs that fail, the one that says most is kept: one said in full, then one of a return.
