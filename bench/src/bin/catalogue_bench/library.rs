@@ -1,23 +1,19 @@
 //! The catalogue by the exported function.
 
 use crate::timing::fastest;
-use plan_tests::planner::plan_catalogue;
+use planner::plan_catalogue;
 
 /// N, G and R.
 pub type Size = (usize, usize, usize);
 
-/// An accepted catalogue's answer is this and its entry count.
-const ENTRIES: u32 = 0x1_0000;
-
-/// The answer of a list that has not enough room.
-const NO_ROOM: u32 = 9;
+/// The refusal of a list that has not enough room.
+const NO_ROOM: u8 = 9;
 
 /// Fills the list; answers the entry count, or none where the list has not enough room.
 pub fn fill((n, g, r): Size, list: &mut [u8]) -> Option<usize> {
-    match plan_catalogue(n, g, r, list) {
-        NO_ROOM => None,
-        answer => Some(answer.checked_sub(ENTRIES).expect("the size is accepted") as usize),
-    }
+    let entries = plan_catalogue(n, g, r, list);
+    assert!(entries.number == 0 || entries.number == NO_ROOM, "the size is accepted");
+    (entries.number == 0).then_some(entries.count)
 }
 
 /// The catalogue, n columns an entry.
