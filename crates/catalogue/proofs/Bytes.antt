@@ -12,6 +12,8 @@ use lib.Dec.{leb}
 use lib.ListN.{length, getD, drop, set, length-set}
 use lib.Seq.{getD-set-same, getD-set-other, drop-set-lt, drop-drop, getD-drop}
 use Rattle.regular.specs.Catalogues.{ListsBytes}
+use Rattle.entries.specs.declared.Trail.{Trail}
+use Rattle.entries.specs.Tracing.{Followed}
 use Rattle.catalogue.specs.Turns.{Goes, Stops, Put, Filling}
 use Rattle.catalogue.proofs.Turns.{with-entry, with-same, with-other, progress-none, progress-more, stopped}
 
@@ -43,10 +45,10 @@ put-more f c base v w h p =
         ap (λ (k : ℕ). drop k a) z ∙ sym (drop-drop 1 (base + f) a) ∙ ap (drop 1) e ∙ drop-drop 1 (base + f) b ∙ ap (λ (k : ℕ). drop k b) (sym z)
 
 -- the loop
-pub filling-none : (n g r : ℕ) (v c : List ℕ) → Filling n g r v v 0 0 c
-filling-none n g r v c = record {
+pub filling-none : (n g r : ℕ) (v c : List ℕ) (trail : Trail) → Followed 0 [] trail → Filling n g r v v 0 0 c trail
+filling-none n g r v c trail h = record {
   all = λ _. [];
-  progress = progress-none n g r (λ _. []) c;
+  progress = progress-none n g r (λ _. []) c trail h;
   place = omega arith;
   some = omega arith;
   room = omega arith;
@@ -55,13 +57,13 @@ filling-none n g r v c = record {
   rest = refl;
 }
 
-module _ (n g r : ℕ) (v w : List ℕ) (i base : ℕ) (c : List ℕ) (x : Filling n g r v w i base c) (len : ℕ) (e : len ≡ length v) where
-  pub filling-more : (d w' : List ℕ) → Goes n g r i (leb n (len - base)) c d → Put n d base w w' → Filling n g r v w' (i + 1) (base + n) d
-  filling-more d w' t p =
+module _ (n g r : ℕ) (v w : List ℕ) (i base : ℕ) (c : List ℕ) (trail : Trail) (x : Filling n g r v w i base c trail) (len : ℕ) (e : len ≡ length v) where
+  pub filling-more : (d w' : List ℕ) (next : Trail) → Goes n g r i (leb n (len - base)) c d next → Put n d base w w' → Filling n g r v w' (i + 1) (base + n) d next
+  filling-more d w' onward t p =
       let room = leb-true n (len - base) (t .room) in
       record {
         all = with-entry (x .all) i d;
-        progress = progress-more n g r i (x .all) (leb n (len - base)) c d (x .progress) t;
+        progress = progress-more n g r i (x .all) (leb n (len - base)) c d trail onward (x .progress) t;
         place = omega (arith, x .place, next i);
         some = omega (arith, x .some, t .sized .size .some);
         room = omega (arith, e, x .room);
@@ -80,15 +82,15 @@ module _ (n g r : ℕ) (v w : List ℕ) (i base : ℕ) (c : List ℕ) (x : Filli
       before j f h l = omega (arith, x .place, one-more j n, mul-le-mul-right {m = j + 1} {n = i} n (omega arith))
 
   -- there is room for the next entry, and what is left of the list falls
-  pub filling-room : (d : List ℕ) → Goes n g r i (leb n (len - base)) c d → base + n ≤ length v
-  filling-room d t = omega (arith, leb-true n (len - base) (t .room), e, x .room)
+  pub filling-room : (d : List ℕ) (next : Trail) → Goes n g r i (leb n (len - base)) c d next → base + n ≤ length v
+  filling-room d next t = omega (arith, leb-true n (len - base) (t .room), e, x .room)
 
-  pub filling-falls : (d : List ℕ) → Goes n g r i (leb n (len - base)) c d → length v - (base + n) < length v - base
-  filling-falls d t = omega (arith, filling-room d t, t .sized .size .some)
+  pub filling-falls : (d : List ℕ) (next : Trail) → Goes n g r i (leb n (len - base)) c d next → length v - (base + n) < length v - base
+  filling-falls d next t = omega (arith, filling-room d next t, t .sized .size .some)
 
   pub filling-stops : (number : ℕ) → Stops n g r i (leb n (len - base)) c number → ListsBytes n g r v w number i
   filling-stops number s = record {
-    catalogues = stopped n g r (λ k. k * n ≤ length v) (λ a b h l. omega (arith, mul-le-mul-right {m = b} {n = a} n h)) i (x .all) c (x .progress) (omega (arith, x .place, x .room)) (λ j. drop (j * n) w) (x .entries) number (leb n (len - base))
+    catalogues = stopped n g r (λ k. k * n ≤ length v) (λ a b h l. omega (arith, mul-le-mul-right {m = b} {n = a} n h)) i (x .all) c trail (x .progress) (omega (arith, x .place, x .room)) (λ j. drop (j * n) w) (x .entries) number (leb n (len - base))
         (λ q l. omega (arith, leb-false n (len - base) q, e, x .place, x .size, x .room, one-more i n, ap (λ (k : ℕ). k * n) (add-one i))) s;
     rest = subst (λ (k : ℕ). drop k w ≡ drop k v) (x .place) (x .rest);
     size = x .size;

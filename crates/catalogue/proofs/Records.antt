@@ -13,7 +13,10 @@ use lib.Seq.{getD-set-same, getD-set-other, drop-set-lt, drop-drop}
 use Rattle.regular.specs.Designs.{blank}
 use Rattle.regular.specs.declared.Design.{Design}
 use Rattle.regular.specs.Smallest.{Entry}
+use Rattle.entries.specs.declared.Trail.{Trail}
+use Rattle.entries.specs.Tracing.{Followed}
 use Rattle.catalogue.specs.declared.Listed.{Listed}
+use Rattle.catalogue.specs.declared.Stop.{Stop}
 use Rattle.regular.specs.Catalogues.{ListsDesigns}
 use Rattle.catalogue.specs.Turns.{Turned}
 use Rattle.catalogue.specs.Records.{Head, Stepped, Listing}
@@ -28,19 +31,19 @@ fails true a = absurd a
 fails false _ = refl
 
 -- what a turn answers
-module _ (n g r i len : ℕ) (c : Design) where
-  pub stepped-stops : (found : Bool) (number : ℕ) (d : List ℕ) → Turned n g r i (ltb i len) (c .columns) found number d → found ≡ false
-      → Stepped n g r i len c (record { found = false; design = c; answer = record { number = number; count = i } })
-  stepped-stops found number d t e = record {
+module _ (n g r i len : ℕ) (c : Stop) where
+  pub stepped-stops : (found : Bool) (number : ℕ) (d : List ℕ) (w : Trail) → Turned n g r i (ltb i len) (c .design .columns) found number d w → found ≡ false
+      → Stepped n g r i len c (record { found = false; stop = c; answer = record { number = number; count = i } })
+  stepped-stops found number d w t e = record {
     goes = λ q. absurd (clash (sym q));
     head = λ q. absurd (clash (sym q));
     stops = λ _. t .stops e;
     count = refl;
   }
 
-  pub stepped-goes : (found : Bool) (number : ℕ) (d : List ℕ) (f b : ℕ) → f ≡ n → b ≡ n - g → Turned n g r i (ltb i len) (c .columns) found number d → found ≡ true
-      → Stepped n g r i len c (record { found = true; design = record { factors = f; basics = b; columns = d }; answer = record { number = 0; count = i } })
-  stepped-goes found number d f b p q t e = record {
+  pub stepped-goes : (found : Bool) (number : ℕ) (d : List ℕ) (w : Trail) (f b : ℕ) → f ≡ n → b ≡ n - g → Turned n g r i (ltb i len) (c .design .columns) found number d w → found ≡ true
+      → Stepped n g r i len c (record { found = true; stop = record { design = record { factors = f; basics = b; columns = d }; trail = w }; answer = record { number = 0; count = i } })
+  stepped-goes found number d w f b p q t e = record {
     goes = λ _. t .goes e;
     head = λ _. record { factors = p; basics = q };
     stops = λ y. absurd (clash y);
@@ -48,10 +51,10 @@ module _ (n g r i len : ℕ) (c : Design) where
   }
 
 -- the loop
-pub listing-none : (n g r : ℕ) (ys : List Design) (c : Design) → Listing n g r ys ys 0 c
-listing-none n g r ys c = record {
+pub listing-none : (n g r : ℕ) (ys : List Design) (c : Stop) → Followed 0 [] (c .trail) → Listing n g r ys ys 0 c
+listing-none n g r ys c h = record {
   all = λ _. [];
-  progress = progress-none n g r (λ _. []) (c .columns);
+  progress = progress-none n g r (λ _. []) (c .design .columns) (c .trail) h;
   room = omega arith;
   size = refl;
   entries = λ j h. absurd (omega arith);
@@ -59,20 +62,20 @@ listing-none n g r ys c = record {
   rest = refl;
 }
 
-module _ (n g r : ℕ) (ys zs : List Design) (i : ℕ) (c : Design) (x : Listing n g r ys zs i c) (s : Listed) (t : Stepped n g r i (length ys) c s) where
+module _ (n g r : ℕ) (ys zs : List Design) (i : ℕ) (c : Stop) (x : Listing n g r ys zs i c) (s : Listed) (t : Stepped n g r i (length ys) c s) where
   pub listing-room : s .found ≡ true → i < length ys
   listing-room e = ltb-true i (length ys) (t .goes e .room)
 
-  pub listing-more : s .found ≡ true → Listing n g r ys (set zs i (s .design)) (i + 1) (s .design)
+  pub listing-more : s .found ≡ true → Listing n g r ys (set zs i (s .stop .design)) (i + 1) (s .stop)
   listing-more e =
-      let d = s .design in
+      let d = s .stop .design in
       let zs' = set zs i d in
       let h = listing-room e in
       let new : getD zs' i blank ≡ d = getD-set-same zs i d blank (omega (arith, x .size)) in
       let old : (j : ℕ) → (j ≡ i → ⊥) → getD zs' j blank ≡ getD zs j blank = λ j ne. getD-set-other zs i j d blank ne in
       record {
         all = with-entry (x .all) i (d .columns);
-        progress = progress-more n g r i (x .all) (ltb i (length ys)) (c .columns) (d .columns) (x .progress) (t .goes e);
+        progress = progress-more n g r i (x .all) (ltb i (length ys)) (c .design .columns) (d .columns) (c .trail) (s .stop .trail) (x .progress) (t .goes e);
         room = omega arith;
         size = length-set zs i d ∙ x .size;
         entries = λ j l. by-cases (ℕ-discrete j i)
@@ -86,7 +89,7 @@ module _ (n g r : ℕ) (ys zs : List Design) (i : ℕ) (c : Design) (x : Listing
 
   pub listing-stops : s .found ≡ false → ListsDesigns n g r ys zs (s .answer .number) (s .answer .count)
   listing-stops e = subst (λ (k : ℕ). ListsDesigns n g r ys zs (s .answer .number) k) (sym (t .count)) (record {
-    catalogues = stopped n g r (λ k. k ≤ length ys) (λ a b h l. omega arith) i (x .all) (c .columns) (x .progress) (x .room) (λ j. getD zs j blank .columns)
+    catalogues = stopped n g r (λ k. k ≤ length ys) (λ a b h l. omega arith) i (x .all) (c .design .columns) (c .trail) (x .progress) (x .room) (λ j. getD zs j blank .columns)
         (λ j h f l. ap (λ (y : List ℕ). getD y f 0) (x .entries j h)) (s .answer .number) (ltb i (length ys)) (λ q l. omega (arith, ltb-false i (length ys) q)) (t .stops e);
     records = λ j h.
         let b = x .progress .begun j h .held in

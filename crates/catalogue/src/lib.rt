@@ -2,22 +2,27 @@
 ghost use mathlib.Core.Path.{_≡_};
 ghost use mathlib.Core.Bool.{true, false};
 ghost use Prim.Native.Nat.{ℕ, _+_, _<_, _≤_};
+ghost use mathlib.Core.List.{[]};
 ghost use lib.ListN.{length};
 ghost use Rattle.regular.specs.Refusals.{Lowest, sizeFaults};
 ghost use Rattle.catalogue.specs.Sized.{Sized};
 ghost use Rattle.regular.specs.Designs.{blank};
+ghost use Rattle.entries.specs.Tracing.{Followed};
 ghost use Rattle.catalogue.specs.Turns.{Going, Turned, Put};
 ghost use Rattle.catalogue.specs.Records.{Stepped};
 ghost use Rattle.regular.specs.Catalogues.{ListsBytes, ListsDesigns};
+use entries::Trail;
 use entries::next_entry;
+use entries::trailhead;
 use regular::CatalogueAnswer;
 use regular::Design;
 
-// What a turn finds: the next entry's columns, or the answer's number.
+// What a turn finds: the next entry's columns and trail, or the answer's number.
 struct Turn {
     found: bool,
     number: u8,
     columns: [u8; 16],
+    trail: Trail,
 }
 
 // 1, 2 or 3 if the sizes or the resolution are out of bounds, else 0.
@@ -45,35 +50,37 @@ fn sizes(n: usize, g: usize, r: usize) -> u8
     0
 }
 
-// A turn of its three parts.
-fn outcome(found: bool, number: u8, columns: [u8; 16]) -> Turn
-    ensures { λ res. ⌜ res ≡ record { found = found; number = number; columns = columns } ⌝ }
+// A turn of its parts.
+fn outcome(found: bool, number: u8, columns: [u8; 16], trail: Trail) -> Turn
+    ensures { λ res. ⌜ res ≡ record { found = found; number = number; columns = columns; trail = trail } ⌝ }
 {
     Turn {
         found,
         number,
         columns,
+        trail,
     }
 }
 
 // The entry after c, the i-th, or the first if i is 0, where there is room for one more.
-fn advance(n: usize, g: usize, r: usize, i: usize, room: bool, c: [u8; 16]) -> Turn
-    requires { ⌜ Going n g r i c ⌝ }
-    ensures { λ res. ⌜ Turned n g r i room c (res .found) (res .number) (res .columns) ⌝ }
+fn advance(n: usize, g: usize, r: usize, i: usize, room: bool, c: [u8; 16], trail: Trail) -> Turn
+    requires { ⌜ Going n g r i c trail ⌝ }
+    ensures { λ res. ⌜ Turned n g r i room c (res .found) (res .number) (res .columns) (res .trail) ⌝ }
 {
     let number = sizes(n, g, r);
     if number != 0 {
-        return outcome(false, number, c);
+        return outcome(false, number, c, trail);
     }
-    let e = next_entry(n, n - g, r, 0 < i, c);
+    let e = next_entry(n, n - g, r, 0 < i, c, trail);
+    let columns = e.columns;
+    let next = e.trail;
     if !e.found {
-        return outcome(false, 0, c);
+        return outcome(false, 0, columns, next);
     }
     if !room {
-        return outcome(false, 9, c);
+        return outcome(false, 9, columns, next);
     }
-    let columns = e.columns;
-    outcome(true, 0, columns)
+    outcome(true, 0, columns, next)
 }
 
 // The first n columns, at the places of the list from base on.
@@ -94,11 +101,12 @@ pub fn list_catalogue(n: usize, g: usize, r: usize, out: &mut [u8]) -> Catalogue
     ensures { λ res. ⌜ ListsBytes n g r (now (out .entry)) (now (out .exit)) (res .number) (res .count) ⌝ }
 {
     let mut c = [0u8; 16];
+    let mut trail = trailhead();
     let mut count: usize = 0;
     let mut base: usize = 0;
     loop {
         let room = n <= out.len() - base;
-        let s = advance(n, g, r, count, room, c);
+        let s = advance(n, g, r, count, room, c, trail);
         if !s.found {
             return CatalogueAnswer {
                 number: s.number,
@@ -108,40 +116,52 @@ pub fn list_catalogue(n: usize, g: usize, r: usize, out: &mut [u8]) -> Catalogue
         let t = s.columns;
         put(n, t, base, out);
         c = t;
+        trail = s.trail;
         base += n;
         count += 1;
     }
 }
 
-// What a turn of the loop over records finds: the next entry as a record, or the answer.
+// A place in the catalogue: the entry's record, and the trail to it.
+struct Stop {
+    design: Design,
+    trail: Trail,
+}
+
+// What a turn of the loop over records finds: the next place, or the answer.
 struct Listed {
     found: bool,
-    design: Design,
+    stop: Stop,
     answer: CatalogueAnswer,
 }
 
-// The record before the first.
-fn begin() -> Design
-    ensures { λ res. ⌜ res ≡ blank ⌝ }
+// The place before the first.
+fn begin() -> Stop
+    ensures { λ res. ⌜ (res .design ≡ blank) × Followed 0 [] (res .trail) ⌝ }
 {
-    Design {
-        factors: 0,
-        basics: 0,
-        columns: [0u8; 16],
+    let trail = trailhead();
+    Stop {
+        design: Design {
+            factors: 0,
+            basics: 0,
+            columns: [0u8; 16],
+        },
+        trail,
     }
 }
 
-// The entry after the record c, the i-th, or the first if i is 0, where a list of len has a place for it.
-fn step(n: usize, g: usize, r: usize, i: usize, len: usize, c: Design) -> Listed
-    requires { ⌜ Going n g r i (c .columns) ⌝ }
+// The entry after the place c, the i-th, or the first if i is 0, where a list of len has a place for it.
+fn step(n: usize, g: usize, r: usize, i: usize, len: usize, c: Stop) -> Listed
+    requires { ⌜ Going n g r i (c .design .columns) (c .trail) ⌝ }
     ensures { λ res. ⌜ Stepped n g r i len c res ⌝ }
 {
-    let columns = c.columns;
-    let t = advance(n, g, r, i, i < len, columns);
+    let columns = c.design.columns;
+    let trail = c.trail;
+    let t = advance(n, g, r, i, i < len, columns, trail);
     if !t.found {
         return Listed {
             found: false,
-            design: c,
+            stop: c,
             answer: CatalogueAnswer {
                 number: t.number,
                 count: i,
@@ -149,12 +169,16 @@ fn step(n: usize, g: usize, r: usize, i: usize, len: usize, c: Design) -> Listed
         };
     }
     let d = t.columns;
+    let onward = t.trail;
     Listed {
         found: true,
-        design: Design {
-            factors: n as u8,
-            basics: (n - g) as u8,
-            columns: d,
+        stop: Stop {
+            design: Design {
+                factors: n as u8,
+                basics: (n - g) as u8,
+                columns: d,
+            },
+            trail: onward,
         },
         answer: CatalogueAnswer {
             number: 0,
@@ -172,8 +196,8 @@ pub fn catalogue(n: usize, g: usize, r: usize, list: &mut [Design]) -> Catalogue
     loop {
         let s = step(n, g, r, i, list.len(), c);
         if s.found {
-            c = s.design;
-            list[i] = c;
+            c = s.stop;
+            list[i] = c.design;
             i += 1;
         } else {
             return s.answer;

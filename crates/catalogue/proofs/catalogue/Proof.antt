@@ -50,13 +50,18 @@ use denote.Triple.Walked.{says, Stays, stay-slice, stay-none, walkOf, goes-slice
 use denote.Exit.{yes}
 use Rattle.regular.specs.declared.Design.{Design}
 use Rattle.regular.specs.declared.CatalogueAnswer.{CatalogueAnswer}
+use Rattle.entries.specs.Tracing.{Followed}
+use Rattle.regular.specs.Designs.{blank}
 use Rattle.catalogue.specs.declared.Listed.{Listed}
+use Rattle.catalogue.specs.declared.Stop.{Stop}
 use Rattle.regular.specs.Catalogues.{ListsDesigns}
 use Rattle.catalogue.specs.Turns.{Going}
 use Rattle.catalogue.specs.Records.{Stepped, Listing}
 use Rattle.catalogue.proofs.Records.{listing-none, listing-room, listing-more, listing-stops, holds, fails}
 use Rattle.regular.proofs.Design as T
 use Rattle.regular.proofs.Design.Laws as T′
+use Rattle.catalogue.proofs.Stop as P
+use Rattle.catalogue.proofs.Stop.Laws as P′
 use Rattle.catalogue.proofs.Listed as S
 use Rattle.catalogue.proofs.Listed.Laws as S′
 use Rattle.regular.proofs.CatalogueAnswer as R
@@ -89,14 +94,20 @@ abbrev slice : Ty
 slice = sliceTy (tyRef (named 0) mut (pointee (T.the-row .written)))
 
 module _ {M : Type 1} (𝓤 : URA M) (H : Heap 𝓤) (A : Atoms 𝓤) (mem : Memory → SProp 𝓤) (run : Routine → Fun 𝓤) where
-  -- the contracts that the proof cites, and of `step`'s `ensured` the clause alone
+  -- the contracts that the proof cites, and of their `ensured` the clause alone
   abbrev Beg : Contract 𝓤
   Beg = tripleOf 𝓤 H A beg.signature (beg.spec 𝓤 H A mem run)
 
   abbrev Stp : Contract 𝓤
   Stp = tripleOf 𝓤 H A stp.signature (stp.spec 𝓤 H A mem run)
 
-  stp-of : (w g r i n : ℕ) (c : Design) (u : Listed) → ent 𝓤 (ensured 𝓤 H A stp.ended (stp.clauses 𝓤 H A mem run) tt (w, (g, (r, (i, (n, (c, tt)))))) tt u) (fact 𝓤 (Stepped w g r i n c u))
+  abbrev Begins : Stop → Type 0
+  Begins d = (d .design ≡ blank) × Followed 0 [] (d .trail)
+
+  beg-of : (d : Stop) → ent 𝓤 (ensured 𝓤 H A beg.ended (beg.clauses 𝓤 H A mem run) tt tt tt d) (fact 𝓤 (Begins d))
+  beg-of d = exE 𝓤 _ (λ ws. snd∗ 𝓤 (sem 𝓤 H A (lasts beg.ended tt tt ws)) (fact 𝓤 (Begins d)))
+
+  stp-of : (w g r i n : ℕ) (c : Stop) (u : Listed) → ent 𝓤 (ensured 𝓤 H A stp.ended (stp.clauses 𝓤 H A mem run) tt (w, (g, (r, (i, (n, (c, tt)))))) tt u) (fact 𝓤 (Stepped w g r i n c u))
   stp-of w g r i n c u = exE 𝓤 _ (λ ws. snd∗ 𝓤 (sem 𝓤 H A (lasts stp.ended tt (w, (g, (r, (i, (n, (c, tt)))))) ws)) (fact 𝓤 (Stepped w g r i n c u)))
 
 module _ {M : Type 1} (𝓤 : URA M) (H : Heap 𝓤) (A : Atoms 𝓤) (W : Given 𝓤 H A) (mem : Memory → SProp 𝓤) (run : Routine → Fun 𝓤) (κ : Lft) (q : Share) (b o : ℕ) (γ : GName) (w g r : ℕ) (ys : List Design) where
@@ -117,6 +128,9 @@ module _ {M : Type 1} (𝓤 : URA M) (H : Heap 𝓤) (A : Atoms 𝓤) (W : Given
 
   abbrev mach : Design → Val
   mach c = LL.val T.the-type T′.the-laws c
+
+  abbrev held : Stop → Val
+  held c = LL.val P.the-type P′.the-laws c
 
   abbrev told : CatalogueAnswer → Val
   told c = LL.val R.the-type R′.the-laws c
@@ -140,11 +154,11 @@ module _ {M : Type 1} (𝓤 : URA M) (H : Heap 𝓤) (A : Atoms 𝓤) (W : Given
         owned ! R.the-row (Is R.the-row) (LL.makes R.the-type R′.the-plain 𝓤 H A) u _ is-u $ done !
 
     -- the loop's state: i, the list as it stands, the last record, and what is known of them
-    abbrev Facts : ℕ → List Design → Design → Type 0
-    Facts i zs c = (i ≤ n) × ((length zs ≡ n) × (Is T.the-row c (mach c ∷ []) × Listing w g r ys zs i c))
+    abbrev Facts : ℕ → List Design → Stop → Type 0
+    Facts i zs c = (i ≤ n) × ((length zs ≡ n) × (Is P.the-row c (held c ∷ []) × Listing w g r ys zs i c))
 
     abbrev State : Type 0
-    State = (i : ℕ) × ((zs : List Design) × ((c : Design) × Facts i zs c))
+    State = (i : ℕ) × ((zs : List Design) × ((c : Stop) × Facts i zs c))
 
     abbrev Nearer : State → State → Type 0
     Nearer u t = n - u .0 < n - t .0
@@ -161,23 +175,23 @@ module _ {M : Type 1} (𝓤 : URA M) (H : Heap 𝓤) (A : Atoms 𝓤) (W : Given
     goes-beg : ent 𝓤 (sem 𝓤 H A ftrue) (Beg 𝓤 H A mem run .pre to-beg)
     goes-beg = qed W (‵ ftrue ∷ []) ∵ nothing ! $ join ! $ frame ! $ done !
 
-    abbrev to-stp : Design → ℕ → Stp 𝓤 H A mem run .Ghost
-    to-stp c i = ((tt, tt, tt, (w, (g, (r, (i, (n, (c, tt)))))), (vint w64 w ∷ [], (vint w64 g ∷ [], (vint w64 r ∷ [], (vint w64 i ∷ [], (vint w64 n ∷ [], (mach c ∷ [], tt))))))), tt)
+    abbrev to-stp : Stop → ℕ → Stp 𝓤 H A mem run .Ghost
+    to-stp c i = ((tt, tt, tt, (w, (g, (r, (i, (n, (c, tt)))))), (vint w64 w ∷ [], (vint w64 g ∷ [], (vint w64 r ∷ [], (vint w64 i ∷ [], (vint w64 n ∷ [], (held c ∷ [], tt))))))), tt)
 
-    goes-stp : (c : Design) (i : ℕ) → i < 2 ^ 64 → Going w g r i (c .columns) → ent 𝓤 (sem 𝓤 H A (T.the-row .own c (mach c ∷ []))) (Stp 𝓤 H A mem run .pre (to-stp c i))
+    goes-stp : (c : Stop) (i : ℕ) → i < 2 ^ 64 → Going w g r i (c .design .columns) (c .trail) → ent 𝓤 (sem 𝓤 H A (P.the-row .own c (held c ∷ []))) (Stp 𝓤 H A mem run .pre (to-stp c i))
     goes-stp c i i-fits go =
-        qed W (‵ (T.the-row .own c (mach c ∷ [])) ∷ []) ∵
-        says ! {P = onEntry 𝓤 H A stp.signature tt tt (w, (g, (r, (i, (n, (c, tt)))))) (vint w64 w ∷ [], (vint w64 g ∷ [], (vint w64 r ∷ [], (vint w64 i ∷ [], (vint w64 n ∷ [], (mach c ∷ [], tt))))))} go $
+        qed W (‵ (P.the-row .own c (held c ∷ [])) ∷ []) ∵
+        says ! {P = onEntry 𝓤 H A stp.signature tt tt (w, (g, (r, (i, (n, (c, tt)))))) (vint w64 w ∷ [], (vint w64 g ∷ [], (vint w64 r ∷ [], (vint w64 i ∷ [], (vint w64 n ∷ [], (held c ∷ [], tt))))))} go $
         nothing ! $ move ! (1 ∷ 0 ∷ []) $ fjoin ! $
         owned ! usize (Is usize) (uint-makes 𝓤 H A W w64) n _ (refl, room .0) $ fjoin ! $ owned ! usize (Is usize) (uint-makes 𝓤 H A W w64) i _ (refl, i-fits) $ fjoin ! $
         owned ! usize (Is usize) (uint-makes 𝓤 H A W w64) r _ (refl, r-fits) $ fjoin ! $ owned ! usize (Is usize) (uint-makes 𝓤 H A W w64) g _ (refl, g-fits) $ fjoin ! $
         owned ! usize (Is usize) (uint-makes 𝓤 H A W w64) w _ (refl, w-fits) $ fjoin ! $ nothing ! $ frame ! $ done !
 
     -- the state after a turn that found u
-    after : (t : State) (u : Listed) → Stepped w g r (t .0) n (t .1 .1 .0) u → Is T.the-row (u .design) (mach (u .design) ∷ []) → T (u .found) → State
+    after : (t : State) (u : Listed) → Stepped w g r (t .0) n (t .1 .1 .0) u → Is P.the-row (u .stop) (held (u .stop) ∷ []) → T (u .found) → State
     after (i, (zs, (c, (le, (len, (is, so)))))) u e is-u yes =
         let h = holds (u .found) yes in
-        (i + 1, (set zs i (u .design), (u .design, (add-one-le (listing-room w g r ys zs i c so u e h), (length-set zs i (u .design) ∙ len, (is-u, listing-more w g r ys zs i c so u e h))))))
+        (i + 1, (set zs i (u .stop .design), (u .stop, (add-one-le (listing-room w g r ys zs i c so u e h), (length-set zs i (u .stop .design) ∙ len, (is-u, listing-more w g r ys zs i c so u e h))))))
 
     module _ (𝓣 : Tables 𝓤 H) (known : Triple 𝓤 (𝓣 .C #catalogue·step) (Stp 𝓤 H A mem run)) (l₀ l₁ l₂ l₃ l₄ l₅ l₆ l₇ l₈ l₉ l₁₀ l₁₁ : ℕ) where
       abbrev C : Calls 𝓤 H
@@ -187,12 +201,12 @@ module _ {M : Type 1} (𝓤 : URA M) (H : Heap 𝓤) (A : Atoms 𝓤) (W : Given
       Λ = 𝓣 .Λ
 
       abbrev En : Env 𝓤 H
-      En = (R′.mir, l₀) ∷ (word, l₁) ∷ (word, l₂) ∷ (word, l₃) ∷ (slice, l₄) ∷ (word, l₅) ∷ (T′.mir, l₆) ∷ (S′.mir, l₇) ∷ (word, l₈) ∷ (tyBool, l₉) ∷ (word, l₁₀) ∷ (tyPtr, l₁₁) ∷ []
+      En = (R′.mir, l₀) ∷ (word, l₁) ∷ (word, l₂) ∷ (word, l₃) ∷ (slice, l₄) ∷ (word, l₅) ∷ (P′.mir, l₆) ∷ (S′.mir, l₇) ∷ (word, l₈) ∷ (tyBool, l₉) ∷ (word, l₁₀) ∷ (tyPtr, l₁₁) ∷ []
 
-      abbrev Ctx : ℕ → List Design → Design → List (Item 𝓤)
+      abbrev Ctx : ℕ → List Design → Stop → List (Item 𝓤)
       Ctx i zs c = ‵ (row T.the-row fullShare zs b o) ∷ ‵ (fobor κ q (Held T.the-row n b o γ)) ∷ ‵ (fobs γ (codedHoleys T.the-row .code (heres T.the-row ys))) ∷ ‵ (fauth γ (codedHoleys T.the-row .code (heres T.the-row ys)))
           ∷ ‵ (froom tyPtr l₁₁ 0) ∷ ‵ (fdies tyPtr l₁₁) ∷ ‵ (froom word l₁₀ 0) ∷ ‵ (fdies word l₁₀) ∷ ‵ (froom tyBool l₉ 0) ∷ ‵ (fdies tyBool l₉) ∷ ‵ (froom word l₈ 0) ∷ ‵ (fdies word l₈) ∷ ‵ (froom S′.mir l₇ 0) ∷ ‵ (fdies S′.mir l₇)
-          ∷ ‵ (fat fullShare T′.mir l₆ 0 (mach c)) ∷ ‵ (fdies T′.mir l₆) ∷ ‵ (fat fullShare word l₅ 0 (vint w64 i)) ∷ ‵ (fdies word l₅)
+          ∷ ‵ (fat fullShare P′.mir l₆ 0 (held c)) ∷ ‵ (fdies P′.mir l₆) ∷ ‵ (fat fullShare word l₅ 0 (vint w64 i)) ∷ ‵ (fdies word l₅)
           ∷ ‵ (fat fullShare slice l₄ 0 s) ∷ ‵ (fdies slice l₄) ∷ ‵ (fat fullShare word l₃ 0 (vint w64 r)) ∷ ‵ (fdies word l₃) ∷ ‵ (fat fullShare word l₂ 0 (vint w64 g)) ∷ ‵ (fdies word l₂) ∷ ‵ (fat fullShare word l₁ 0 (vint w64 w)) ∷ ‵ (fdies word l₁)
           ∷ ‵ (froom R′.mir l₀ 0) ∷ ‵ (fdies R′.mir l₀) ∷ []
 
@@ -208,7 +222,7 @@ module _ {M : Type 1} (𝓤 : URA M) (H : Heap 𝓤) (A : Atoms 𝓤) (W : Given
       turns (i, (zs, (c, (le, (len, (is, so)))))) =
           assigns ! (of-opd ! (load ! (from ! (fld ! refl (stop !))) (look-in ! 18 (sub ! 1 refl (whole !))))) (from ! (stop !)) (init ! 10 refl (tt, record { fits = room .0 })) $
           -- the call
-          owned ! T.the-row (Is T.the-row) (LL.makes T.the-type T′.the-plain 𝓤 H A) c (mach c ∷ []) is $ use1 W (raw (Stp 𝓤 H A mem run .pre (to-stp c i))) (goes-stp c i (fits i le) (so .progress .going)) $
+          owned ! P.the-row (Is P.the-row) (LL.makes P.the-type P′.the-plain 𝓤 H A) c (held c ∷ []) is $ use1 W (raw (Stp 𝓤 H A mem run .pre (to-stp c i))) (goes-stp c i (fits i le) (so .progress .going)) $
           calls-at ! (fmOf 𝓤 H (W .laws) 𝓣) (Stp 𝓤 H A mem run) known (to-stp c i)
           (and-then ! (load ! (from ! (stop !)) (look ! 25 refl)) (and-then ! (load ! (from ! (stop !)) (look ! 23 refl)) (and-then ! (load ! (from ! (stop !)) (look ! 21 refl)) (and-then ! (load ! (from ! (stop !)) (look ! 17 refl)) (and-then ! (load ! (from ! (stop !)) (look ! 11 refl)) (and-then ! (load ! (from ! (stop !)) (look ! 15 refl)) (no-more !))))))) (λ v.
           use1 W (later (some (λ (u : Listed). (‵ ftrue ⊛ ‵ (S.the-row .own u (v ∷ []))) ⊛ raw (ensured 𝓤 H A stp.ended (stp.clauses 𝓤 H A mem run) tt (w, (g, (r, (i, (n, (c, tt)))))) tt u)))) (id⊢ 𝓤 _) $ await ! tt $ pick ! (λ u.
@@ -220,17 +234,17 @@ module _ {M : Type 1} (𝓤 : URA M) (H : Heap 𝓤) (A : Atoms 𝓤) (W : Given
           assigns ! (of-opd ! (load ! (from ! (fld ! refl (stop !))) (look-in ! 12 (sub ! 0 refl (whole !))))) (from ! (stop !)) (init ! 8 refl (tt, tt)) $
           branches ! (load ! (from ! (stop !)) (look ! 8 refl))
           (λ found.
-          assigns ! (of-opd ! (load ! (from ! (fld ! refl (stop !))) (look-in ! 12 (sub ! 1 refl (whole !))))) (from ! (stop !)) (store ! 14 refl (wt u is-u)) $
+          assigns ! (of-opd ! (load ! (from ! (fld ! refl (stop !))) (look-in ! 12 (sub ! 1 refl (whole !))))) (from ! (stop !)) (store ! 14 refl (wts u is-u)) $
           assigns ! (bin ! (load ! (from ! (stop !)) (look ! 16 refl)) (lit ! tt) (record { fits = place-fits u e found })) (from ! (stop !)) (init ! 6 refl (tt, record { fits = place-fits u e found })) $
           assigns ! (bin ! (load ! (from ! (fld ! refl (stop !))) (look-in ! 18 (sub ! 0 refl (whole !)))) (load ! (from ! (stop !)) (look ! 6 refl)) tt) (from ! (stop !)) (init ! 4 refl (tt, tt)) $
           rewrite ! 4 (λ (p : ℕ). ‵ (fat fullShare tyPtr l₁₁ 0 (vptr b p))) (sym (place-is 18 o i)) refl $
-          elem-out ! T.the-row (Is T.the-row) (shows 𝓤 H A T.the-row) (LL.vals T.the-type T′.the-laws) (LL.tells T.the-type T′.the-laws) fullShare zs i c b o (in-list u e found) (λ _.
+          elem-out ! T.the-row (Is T.the-row) (shows 𝓤 H A T.the-row) (LL.vals T.the-type T′.the-laws) (LL.tells T.the-type T′.the-laws) fullShare zs i (c .design) b o (in-list u e found) (λ _.
           -- [list[i]; what it owns; the others; the open borrow; obs; auth; _11; …]
-          assigns ! (of-opd ! (load ! (from ! (stop !)) (look ! 16 refl))) (from ! (hop ! (look ! 6 refl) (stop !))) (store-raw ! 0 refl (wt u is-u)) $
-          move ! (1 ∷ []) $ drop ! $ owned ! T.the-row (Is T.the-row) (LL.makes T.the-type T′.the-plain 𝓤 H A) (u .design) _ (isd u is-u) $ move ! (1 ∷ 0 ∷ []) $ elem-put ! T.the-row fullShare zs i (u .design) (mach (u .design) ∷ []) b o (in-list u e found) $
+          assigns ! (of-opd ! (load ! (from ! (fld ! refl (stop !))) (look-in ! 16 (sub ! 0 refl (whole !))))) (from ! (hop ! (look ! 6 refl) (stop !))) (store-raw ! 0 refl (wt u is-u)) $
+          move ! (1 ∷ []) $ drop ! $ owned ! T.the-row (Is T.the-row) (LL.makes T.the-type T′.the-plain 𝓤 H A) (u .stop .design) _ (isd u is-u) $ move ! (1 ∷ 0 ∷ []) $ elem-put ! T.the-row fullShare zs i (u .stop .design) (mach (u .stop .design) ∷ []) b o (in-list u e found) $
           assigns-last ! (bin ! (load ! (from ! (stop !)) (look ! 16 refl)) (lit ! tt) (record { fits = next-fits u e found })) (from ! (stop !)) (store ! 16 refl (tt, record { fits = next-fits u e found })) $
           forget ! 4 refl $ forget ! 6 refl $ forget ! 8 refl $ forget ! 10 refl $ forget ! 12 refl $
-          again ! Nearer At t (after t u e (isd u is-u) found) (add-one-dec n i (inside u e found))))
+          again ! Nearer At t (after t u e (iss u is-u) found) (add-one-dec n i (inside u e found))))
           (λ none.
           assigns ! (of-opd ! (load ! (from ! (fld ! refl (stop !))) (look-in ! 12 (sub ! 2 refl (whole !))))) (from ! (stop !)) (init ! 26 refl (wta u is-u)) $
           closes-slice ! tt T.the-row ys zs len b o $
@@ -241,14 +255,20 @@ module _ {M : Type 1} (𝓤 : URA M) (H : Heap 𝓤) (A : Atoms 𝓤) (W : Given
           t : State
           t = (i, (zs, (c, (le, (len, (is, so))))))
 
-          isd : (u : Listed) {v : Val} → Is S.the-row u (v ∷ []) → Is T.the-row (u .design) (mach (u .design) ∷ [])
-          isd u {v} p = LL.owed S.the-type S′.the-laws u (v ∷ []) p .1 .0
+          iss : (u : Listed) {v : Val} → Is S.the-row u (v ∷ []) → Is P.the-row (u .stop) (held (u .stop) ∷ [])
+          iss u {v} p = LL.owed S.the-type S′.the-laws u (v ∷ []) p .1 .0
+
+          isd : (u : Listed) {v : Val} → Is S.the-row u (v ∷ []) → Is T.the-row (u .stop .design) (mach (u .stop .design) ∷ [])
+          isd u {v} p = LL.owed P.the-type P′.the-laws (u .stop) (held (u .stop) ∷ []) (iss u p) .0
 
           isa : (u : Listed) {v : Val} → Is S.the-row u (v ∷ []) → Is R.the-row (u .answer) (told (u .answer) ∷ [])
           isa u {v} p = LL.owed S.the-type S′.the-laws u (v ∷ []) p .1 .1 .0
 
-          wt : (u : Listed) {v : Val} → Is S.the-row u (v ∷ []) → T (hasTy T′.mir (mach (u .design))) × WT (mach (u .design))
-          wt u {v} p = LL.lawful T.the-type T′.the-laws 𝓤 H A W .typed (u .design) _ (isd u p) .0
+          wts : (u : Listed) {v : Val} → Is S.the-row u (v ∷ []) → T (hasTy P′.mir (held (u .stop))) × WT (held (u .stop))
+          wts u {v} p = LL.lawful P.the-type P′.the-laws 𝓤 H A W .typed (u .stop) _ (iss u p) .0
+
+          wt : (u : Listed) {v : Val} → Is S.the-row u (v ∷ []) → T (hasTy T′.mir (mach (u .stop .design))) × WT (mach (u .stop .design))
+          wt u {v} p = LL.lawful T.the-type T′.the-laws 𝓤 H A W .typed (u .stop .design) _ (isd u p) .0
 
           wta : (u : Listed) {v : Val} → Is S.the-row u (v ∷ []) → T (hasTy R′.mir (told (u .answer))) × WT (told (u .answer))
           wta u {v} p = LL.lawful R.the-type R′.the-laws 𝓤 H A W .typed (u .answer) _ (isa u p) .0
@@ -265,21 +285,21 @@ module _ {M : Type 1} (𝓤 : URA M) (H : Heap 𝓤) (A : Atoms 𝓤) (W : Given
           next-fits : (u : Listed) → Stepped w g r i n c u → T (u .found) → i + 1 < 2 ^ 64
           next-fits u e h = fits (i + 1) (add-one-le (inside u e h))
 
-    start : (d : Design) → Is T.the-row d (mach d ∷ []) → State
-    start d is-d = (0, (ys, (d, (zero-le, (refl, (is-d, listing-none w g r ys d))))))
+    start : (d : Stop) → Is P.the-row d (held d ∷ []) → Followed 0 [] (d .trail) → State
+    start d is-d h = (0, (ys, (d, (zero-le, (refl, (is-d, listing-none w g r ys d h))))))
 
-    looped : (𝓣 : Tables 𝓤 H) (known : Triple 𝓤 (𝓣 .C #catalogue·step) (Stp 𝓤 H A mem run)) (l₀ l₁ l₂ l₃ l₄ l₅ l₆ l₇ l₈ l₉ l₁₀ l₁₁ : ℕ) (d : Design) → Is T.the-row d (mach d ∷ [])
+    looped : (𝓣 : Tables 𝓤 H) (known : Triple 𝓤 (𝓣 .C #catalogue·step) (Stp 𝓤 H A mem run)) (l₀ l₁ l₂ l₃ l₄ l₅ l₆ l₇ l₈ l₉ l₁₀ l₁₁ : ℕ) (d : Stop) → Is P.the-row d (held d ∷ []) → Followed 0 [] (d .trail)
         → ent 𝓤 (⋆ 𝓤 H A (Ctx 𝓣 known l₀ l₁ l₂ l₃ l₄ l₅ l₆ l₇ l₈ l₉ l₁₀ l₁₁ 0 ys d)) (Wp 𝓤 H (𝓣 .C) (𝓣 .Λ) (En 𝓣 known l₀ l₁ l₂ l₃ l₄ l₅ l₆ l₇ l₈ l₉ l₁₀ l₁₁) m.t-3 (atReturn 𝓤 H (En 𝓣 known l₀ l₁ l₂ l₃ l₄ l₅ l₆ l₇ l₈ l₉ l₁₀ l₁₁) Post))
     unfolding start
-    looped 𝓣 known l₀ l₁ l₂ l₃ l₄ l₅ l₆ l₇ l₈ l₉ l₁₀ l₁₁ d is-d =
-        qed W (At 𝓣 known l₀ l₁ l₂ l₃ l₄ l₅ l₆ l₇ l₈ l₉ l₁₀ l₁₁ (start d is-d)) ∵ exec ! (𝓣 .C) (𝓣 .Λ) (En 𝓣 known l₀ l₁ l₂ l₃ l₄ l₅ l₆ l₇ l₈ l₉ l₁₀ l₁₁) m.t-3 (atRet (En 𝓣 known l₀ l₁ l₂ l₃ l₄ l₅ l₆ l₇ l₈ l₉ l₁₀ l₁₁) Post) $
-        first ! $ blocks ! $ loops ! 𝓣 Nearer Nearer-wf (At 𝓣 known l₀ l₁ l₂ l₃ l₄ l₅ l₆ l₇ l₈ l₉ l₁₀ l₁₁) (turns 𝓣 known l₀ l₁ l₂ l₃ l₄ l₅ l₆ l₇ l₈ l₉ l₁₀ l₁₁) (start d is-d)
+    looped 𝓣 known l₀ l₁ l₂ l₃ l₄ l₅ l₆ l₇ l₈ l₉ l₁₀ l₁₁ d is-d h =
+        qed W (At 𝓣 known l₀ l₁ l₂ l₃ l₄ l₅ l₆ l₇ l₈ l₉ l₁₀ l₁₁ (start d is-d h)) ∵ exec ! (𝓣 .C) (𝓣 .Λ) (En 𝓣 known l₀ l₁ l₂ l₃ l₄ l₅ l₆ l₇ l₈ l₉ l₁₀ l₁₁) m.t-3 (atRet (En 𝓣 known l₀ l₁ l₂ l₃ l₄ l₅ l₆ l₇ l₈ l₉ l₁₀ l₁₁) Post) $
+        first ! $ blocks ! $ loops ! 𝓣 Nearer Nearer-wf (At 𝓣 known l₀ l₁ l₂ l₃ l₄ l₅ l₆ l₇ l₈ l₉ l₁₀ l₁₁) (turns 𝓣 known l₀ l₁ l₂ l₃ l₄ l₅ l₆ l₇ l₈ l₉ l₁₀ l₁₁) (start d is-d h)
 
     -- the body, up to the loop: the first record is called for, and the borrow is opened once
     module _ (𝓣 : Tables 𝓤 H) (begun : Triple 𝓤 (𝓣 .C #catalogue·begin) (Beg 𝓤 H A mem run)) (known : Triple 𝓤 (𝓣 .C #catalogue·step) (Stp 𝓤 H A mem run)) (l₀ l₁ l₂ l₃ l₄ l₅ l₆ l₇ l₈ l₉ l₁₀ l₁₁ : ℕ) where
       abbrev Before : List (Item 𝓤)
       Before = ‵ (froom tyPtr l₁₁ 0) ∷ ‵ (fdies tyPtr l₁₁) ∷ ‵ (froom word l₁₀ 0) ∷ ‵ (fdies word l₁₀) ∷ ‵ (froom tyBool l₉ 0) ∷ ‵ (fdies tyBool l₉) ∷ ‵ (froom word l₈ 0) ∷ ‵ (fdies word l₈) ∷ ‵ (froom S′.mir l₇ 0) ∷ ‵ (fdies S′.mir l₇)
-          ∷ ‵ (froom T′.mir l₆ 0) ∷ ‵ (fdies T′.mir l₆) ∷ ‵ (froom word l₅ 0) ∷ ‵ (fdies word l₅)
+          ∷ ‵ (froom P′.mir l₆ 0) ∷ ‵ (fdies P′.mir l₆) ∷ ‵ (froom word l₅ 0) ∷ ‵ (fdies word l₅)
           ∷ ‵ (fat fullShare slice l₄ 0 s) ∷ ‵ (fdies slice l₄) ∷ ‵ (fat fullShare word l₃ 0 (vint w64 r)) ∷ ‵ (fdies word l₃) ∷ ‵ (fat fullShare word l₂ 0 (vint w64 g)) ∷ ‵ (fdies word l₂) ∷ ‵ (fat fullShare word l₁ 0 (vint w64 w)) ∷ ‵ (fdies word l₁)
           ∷ ‵ (froom R′.mir l₀ 0) ∷ ‵ (fdies R′.mir l₀)
           ∷ (‵ (flft κ q) ⊛ ‵ ftrue) ∷ ‵ (owns (usize ∷ usize ∷ usize ∷ MutSlice (named 0) κ T.the-row ∷ []) a at) ∷ []
@@ -290,14 +310,14 @@ module _ {M : Type 1} (𝓤 : URA M) (H : Heap 𝓤) (A : Atoms 𝓤) (W : Given
           assigns ! (of-opd ! (lit ! tt)) (from ! (stop !)) (init ! 12 refl (tt, record { fits = lit< tt })) $
           nothing ! $ use1 W (raw (Beg 𝓤 H A mem run .pre to-beg)) goes-beg $
           calls-at ! (fmOf 𝓤 H (W .laws) 𝓣) (Beg 𝓤 H A mem run) begun to-beg (no-more !) (λ v.
-          use1 W (later (some (λ (d : Design). (‵ ftrue ⊛ ‵ (T.the-row .own d (v ∷ []))) ⊛ raw (ensured 𝓤 H A beg.ended (beg.clauses 𝓤 H A mem run) tt tt tt d)))) (id⊢ 𝓤 _) $ await ! tt $ pick ! (λ d.
-          split ! $ move ! (1 ∷ []) $ drop ! $ split ! $ drop ! $
-          facts ! T.the-row (Is T.the-row) (shows 𝓤 H A T.the-row) d (v ∷ []) (λ is-v.
-          land ! (from ! (stop !)) (init ! 10 refl (LL.lawful T.the-type T′.the-laws 𝓤 H A W .typed d _ is-v .0)) $
-          rewrite ! 10 (λ (y : Val). ‵ (fat fullShare T′.mir l₆ 0 y)) (ap only (LL.tells T.the-type T′.the-laws d (v ∷ []) is-v)) refl $
+          use1 W (later (some (λ (d : Stop). (‵ ftrue ⊛ ‵ (P.the-row .own d (v ∷ []))) ⊛ raw (ensured 𝓤 H A beg.ended (beg.clauses 𝓤 H A mem run) tt tt tt d)))) (id⊢ 𝓤 _) $ await ! tt $ pick ! (λ d.
+          split ! $ move ! (1 ∷ []) $ use1 W (raw (fact 𝓤 (Begins 𝓤 H A mem run d))) (beg-of 𝓤 H A mem run d) $ heard ! (Begins 𝓤 H A mem run d) (λ fd. split ! $ drop ! $
+          facts ! P.the-row (Is P.the-row) (shows 𝓤 H A P.the-row) d (v ∷ []) (λ is-v.
+          land ! (from ! (stop !)) (init ! 10 refl (LL.lawful P.the-type P′.the-laws 𝓤 H A W .typed d _ is-v .0)) $
+          rewrite ! 10 (λ (y : Val). ‵ (fat fullShare P′.mir l₆ 0 y)) (ap only (LL.tells P.the-type P′.the-laws d (v ∷ []) is-v)) refl $
           move ! (25 ∷ []) $ fsplit ! $ move ! (1 ∷ []) $ fsplit ! $ move ! (1 ∷ []) $ fsplit ! $ move ! (1 ∷ []) $ fsplit ! $ fsplit ! $ move ! (1 ∷ []) $ fsplit ! $ move ! (31 ∷ []) $ split ! $ move ! (2 ∷ 3 ∷ 0 ∷ []) $ opens-slice ! tt T.the-row ys b o $
           keep ! (0 ∷ 1 ∷ 2 ∷ 3 ∷ 10 ∷ 11 ∷ 12 ∷ 13 ∷ 14 ∷ 15 ∷ 16 ∷ 17 ∷ 18 ∷ 19 ∷ 20 ∷ 21 ∷ 22 ∷ 23 ∷ 24 ∷ 25 ∷ 26 ∷ 27 ∷ 28 ∷ 29 ∷ 30 ∷ 31 ∷ 32 ∷ 33 ∷ []) $
-          by ! (looped 𝓣 known l₀ l₁ l₂ l₃ l₄ l₅ l₆ l₇ l₈ l₉ l₁₀ l₁₁ d (subst (λ (y : Val). Is T.the-row d (y ∷ [])) (ap only (LL.tells T.the-type T′.the-laws d (v ∷ []) is-v)) is-v)))))
+          by ! (looped 𝓣 known l₀ l₁ l₂ l₃ l₄ l₅ l₆ l₇ l₈ l₉ l₁₀ l₁₁ d (subst (λ (y : Val). Is P.the-row d (y ∷ [])) (ap only (LL.tells P.the-type P′.the-laws d (v ∷ []) is-v)) is-v) (fd .1))))))
 
     -- the locals are allocated and the arguments stored, for any body: so the kernel does not carry the body through each step
     abbrev shell : Body → Fn
@@ -305,7 +325,7 @@ module _ {M : Type 1} (𝓤 : URA M) (H : Heap 𝓤) (A : Atoms 𝓤) (W : Given
       lifetimes = 1;
       outlives = [];
       params = 4;
-      locals = local R′.mir valueLocal ∷ local word valueLocal ∷ local word valueLocal ∷ local word valueLocal ∷ local slice valueLocal ∷ local word valueLocal ∷ local T′.mir valueLocal ∷ local S′.mir valueLocal ∷ local word valueLocal ∷ local tyBool valueLocal ∷ local word valueLocal ∷ local tyPtr valueLocal ∷ [];
+      locals = local R′.mir valueLocal ∷ local word valueLocal ∷ local word valueLocal ∷ local word valueLocal ∷ local slice valueLocal ∷ local word valueLocal ∷ local P′.mir valueLocal ∷ local S′.mir valueLocal ∷ local word valueLocal ∷ local tyBool valueLocal ∷ local word valueLocal ∷ local tyPtr valueLocal ∷ [];
       body = body;
     }
 
