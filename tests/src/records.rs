@@ -86,6 +86,11 @@ fn add(name: &'static str, took: Duration, input: impl Debug) {
     });
 }
 
+/// How many calls this thread has records of.
+pub fn made() -> u64 {
+    RECORDS.with_borrow(|records| records.values().map(|record| record.calls).sum())
+}
+
 /// The records of this thread, by function.
 pub fn records() -> BTreeMap<&'static str, Record> {
     RECORDS.with_borrow(BTreeMap::clone)

@@ -14,7 +14,7 @@ use crate::hard::{alike_pairs, odd_weight, symmetric, Columns};
 use crate::known::{disguised, in_other_basics};
 use crate::pairs::{call_check, Pair, Verdict};
 use crate::random::Random;
-use crate::records::{keep, records, slowest};
+use crate::records::{keep, made, slowest};
 use crate::samples::{columns, damaged, given, sample, short_sample, Sample};
 use std::collections::BTreeMap;
 
@@ -61,7 +61,7 @@ impl Trial {
 
     /// Takes turns until this many calls are made.
     pub fn run(&mut self, calls: u64) {
-        while records().values().map(|record| record.calls).sum::<u64>() < calls {
+        while made() < calls {
             let plan = self.plan();
             let before = self.slow.each_ref().map(|(name, _)| slowest(name));
             self.forms_and_measures(&plan);

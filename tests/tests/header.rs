@@ -5,7 +5,7 @@ use std::process::Command;
 
 const HEADER: &str = include_str!("../../include/planner.h");
 const CRATE: &str = include_str!("../planner/src/lib.rs");
-const GUARDED: &str = include_str!("../src/guarded.rs");
+const EXPORTED: &str = include_str!("../src/exported.rs");
 const LIBRARY: &str = concat!(env!("CARGO_MANIFEST_DIR"), "/../target/staticlib/libplanner.a");
 
 /// The functions of this library that the lines have: names that begin with `plan_`, up to an opening parenthesis.
@@ -45,8 +45,7 @@ fn the_crate_has_exactly_the_functions_that_the_header_declares() {
 
 #[test]
 fn every_function_is_called_with_guarded_lists() {
-    let lines = GUARDED.lines().map(|line| line.strip_prefix("guarded!(").unwrap_or(line)).filter(|line| !line.starts_with(' '));
-    assert_eq!(of_the_header(), functions(lines), "in the header, and with guarded lists");
+    assert_eq!(of_the_header(), functions(EXPORTED.lines()), "in the header, and with guarded lists");
 }
 
 /// A number as C or Rust writes it.
