@@ -4,3 +4,7 @@ pub mod Products
 pub mod Rows
 pub mod RowLaws
 pub mod Whiteboard
+pub mod ListTests
+pub mod Samples
+pub mod PlanInstances
+pub mod RefusalInstances
