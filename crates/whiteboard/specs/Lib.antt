@@ -8,3 +8,5 @@ pub mod ListTests
 pub mod Samples
 pub mod PlanInstances
 pub mod RefusalInstances
+pub mod AnswerInstances
+pub mod ResultInstances

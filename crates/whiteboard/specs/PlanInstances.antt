@@ -222,8 +222,8 @@ not-better b =
     let e : b .at ≡ 3 = omega (arith, b .from, b .to) in
     omega (arith, subst (λ (l : ℕ). ofLength (0 ∷ 0 ∷ 1 ∷ 0 ∷ []) l < ofLength (0 ∷ 0 ∷ 0 ∷ 1 ∷ []) l) e (b .fewer))
 
-pub less-abcd : LessAberration 4 3 (planOf 4 3 abcd) (planOf 4 3 abc)
-less-abcd = record { p = 0 ∷ 0 ∷ 0 ∷ 1 ∷ []; q = 0 ∷ 0 ∷ 1 ∷ 0 ∷ []; of-t = pattern-abcd; of-s = pattern-abc; better = better-abcd }
+pub less-abcd : LessAberration 4 3 (Generated 4 1 (15 ∷ [])) (Generated 4 1 (7 ∷ []))
+less-abcd = record { p = 0 ∷ 0 ∷ 0 ∷ 1 ∷ []; q = 0 ∷ 0 ∷ 1 ∷ 0 ∷ []; of-t = words-abcd .pattern; of-s = words-abc .pattern; better = better-abcd }
 
 pub less-000 : LessAberration 7 5 (Generated 7 2 (39 ∷ 94 ∷ [])) (Generated 7 2 (39 ∷ 89 ∷ []))
 less-000 = record {
@@ -240,7 +240,7 @@ less-000 = record {
   };
 }
 
-pub not-less : LessAberration 4 3 (planOf 4 3 abc) (planOf 4 3 abcd) → ⊥
+pub not-less : LessAberration 4 3 (Generated 4 1 (7 ∷ [])) (Generated 4 1 (15 ∷ [])) → ⊥
 not-less l =
     let b = l .better in
     let e : b .at ≡ 3 = omega (arith, b .from, b .to) in
@@ -248,8 +248,8 @@ not-less l =
     omega (
       arith,
       fewer,
-      pattern-unique 4 (planOf 4 3 abc) (l .p) (0 ∷ 0 ∷ 1 ∷ 0 ∷ []) (l .of-t) pattern-abc 3 (omega arith) (omega arith),
-      pattern-unique 4 (planOf 4 3 abcd) (l .q) (0 ∷ 0 ∷ 0 ∷ 1 ∷ []) (l .of-s) pattern-abcd 3 (omega arith) (omega arith),
+      pattern-unique 4 (Generated 4 1 (7 ∷ [])) (l .p) (0 ∷ 0 ∷ 1 ∷ 0 ∷ []) (l .of-t) (words-abc .pattern) 3 (omega arith) (omega arith),
+      pattern-unique 4 (Generated 4 1 (15 ∷ [])) (l .q) (0 ∷ 0 ∷ 0 ∷ 1 ∷ []) (l .of-s) (words-abcd .pattern) 3 (omega arith) (omega arith),
     )
 
 -- a design record that holds an entry
@@ -331,9 +331,12 @@ pub table-disguised : Table 4 3 disguised
 unfolding among all distinct
 table-disguised = tabled-table 4 3 disguised refl
 
-pub same-disguised : Same 4 (runsOf runsABC) (runsOf disguised)
+pub witness-disguised : Witness 4 runsABC disguised (1 ∷ 2 ∷ 3 ∷ 0 ∷ []) 9
 unfolding below among all distinct moved
-same-disguised = record { names = 1 ∷ 2 ∷ 3 ∷ 0 ∷ []; mask = 9; carries = carried-witness 4 runsABC disguised (1 ∷ 2 ∷ 3 ∷ 0 ∷ []) 9 refl .carries }
+witness-disguised = carried-witness 4 runsABC disguised (1 ∷ 2 ∷ 3 ∷ 0 ∷ []) 9 refl
+
+pub same-disguised : Same 4 (runsOf runsABC) (runsOf disguised)
+same-disguised = record { names = 1 ∷ 2 ∷ 3 ∷ 0 ∷ []; mask = 9; carries = witness-disguised .carries }
 
 pub no-short-disguised : NoShort 4 3 (runsOf disguised)
 unfolding listTo runOf odd ones onesIn

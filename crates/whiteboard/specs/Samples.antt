@@ -31,6 +31,10 @@ abc = 1 ∷ 2 ∷ 3 ∷ 4 ∷ []
 abbrev pub abcd : List ℕ
 abcd = 1 ∷ 2 ∷ 4 ∷ 7 ∷ []
 
+-- N 5, G 1: the three entries
+abbrev pub fives : List (List ℕ)
+fives = (1 ∷ 2 ∷ 3 ∷ 4 ∷ 8 ∷ []) ∷ (1 ∷ 2 ∷ 4 ∷ 7 ∷ 8 ∷ []) ∷ (1 ∷ 2 ∷ 4 ∷ 8 ∷ 15 ∷ []) ∷ []
+
 abbrev pub small : List Row
 small =
     Row.catalogue 4 1 3 3 (abc ∷ abcd ∷ [])
@@ -39,7 +43,7 @@ small =
     ∷ Row.runs 4 3 abc (0 ∷ 5 ∷ 6 ∷ 3 ∷ 8 ∷ 13 ∷ 14 ∷ 11 ∷ []) (1 ∷ 1 ∷ 3 ∷ 3 ∷ 0 ∷ [])
     ∷ Row.runs 4 3 abcd (0 ∷ 9 ∷ 10 ∷ 3 ∷ 12 ∷ 5 ∷ 6 ∷ 15 ∷ []) (1 ∷ 0 ∷ 6 ∷ 0 ∷ 1 ∷ [])
     ∷ Row.words 3 0 [] (1 ∷ 2 ∷ 4 ∷ []) (0 ∷ 0 ∷ 0 ∷ []) 0
-    ∷ Row.catalogue 5 1 3 3 ((1 ∷ 2 ∷ 3 ∷ 4 ∷ 8 ∷ []) ∷ (1 ∷ 2 ∷ 4 ∷ 7 ∷ 8 ∷ []) ∷ (1 ∷ 2 ∷ 4 ∷ 8 ∷ 15 ∷ []) ∷ [])
+    ∷ Row.catalogue 5 1 3 3 fives
     ∷ []
 
 -- Example 2 of 000: ABCF, BCDEG and ADEFG; ABCF, ADEG and BCDEFG. (000 prints the product of ABCF and BCDEG as AEFG one page before.)
@@ -90,5 +94,5 @@ runs-abc = samples .1 .1 .1 .0
 pub full-3 : WordsRow 3 0 (Generated 3 0 []) (1 ∷ 2 ∷ 4 ∷ []) (0 ∷ 0 ∷ 0 ∷ []) 0
 full-3 = samples .1 .1 .1 .1 .1 .0
 
-pub catalogue-5 : Catalogue 5 4 3 3 (λ i. getD ((1 ∷ 2 ∷ 3 ∷ 4 ∷ 8 ∷ []) ∷ (1 ∷ 2 ∷ 4 ∷ 7 ∷ 8 ∷ []) ∷ (1 ∷ 2 ∷ 4 ∷ 8 ∷ 15 ∷ []) ∷ []) i [])
+pub catalogue-5 : Catalogue 5 4 3 3 (λ i. getD fives i [])
 catalogue-5 = samples .1 .1 .1 .1 .1 .1 .0 3 (omega arith) (omega arith)
