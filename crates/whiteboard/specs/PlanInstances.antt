@@ -252,9 +252,12 @@ not-less l =
       pattern-unique 4 (Generated 4 1 (15 ∷ [])) (l .q) (0 ∷ 0 ∷ 0 ∷ 1 ∷ []) (l .of-s) (words-abcd .pattern) 3 (omega arith) (omega arith),
     )
 
--- a design record that holds an entry
+-- design records that hold an entry
 abbrev pub recordABC : Design
 recordABC = record { factors = 4; basics = 3; columns = abc ++ replicate 12 0 }
+
+abbrev pub recordABCD : Design
+recordABCD = record { factors = 4; basics = 3; columns = abcd ++ replicate 12 0 }
 
 pub holds-abc : Holds 4 3 (Entry 4 3 3) recordABC
 unfolding below
@@ -264,6 +267,16 @@ holds-abc = record {
   columns = entry-equal 4 3 abc (abc ++ replicate 12 0) (agree-at (λ f. getD abc f 0) (λ f. getD (abc ++ replicate 12 0) f 0) 4 refl) 3
       (catalogue-4 .sound 0 (omega arith));
   unused = λ f h l. past-front abc 12 f h;
+}
+
+pub holds-abcd : Holds 4 3 (Entry 4 3 3) recordABCD
+unfolding below
+holds-abcd = record {
+  factors = refl;
+  basics = refl;
+  columns = entry-equal 4 3 abcd (abcd ++ replicate 12 0) (agree-at (λ f. getD abcd f 0) (λ f. getD (abcd ++ replicate 12 0) f 0) 4 refl) 3
+      (catalogue-4 .sound 1 (omega arith));
+  unused = λ f h l. past-front abcd 12 f h;
 }
 
 -- the same plan: 000's plans of 124, 135 and of 124, 1235, the second with factor 3 switched, by a renaming that moves four factors

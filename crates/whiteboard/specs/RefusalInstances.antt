@@ -17,7 +17,7 @@ use Rattle.regular.specs.Sizes.{Size}
 use Rattle.regular.specs.Runs.{runsOf, Agree, Table}
 use Rattle.regular.specs.Words.{Word, NoShort, Generated, Independent, total}
 use Rattle.regular.specs.Columns.{planOf, runOf, Below, Spans}
-use Rattle.regular.specs.Designs.{blank}
+use Rattle.regular.specs.Designs.{Holds}
 use Rattle.regular.specs.Refusals.{Short, SizeFault, ResolutionFault, WordsFault, ColumnsFault, ListFault, RecordFault, TableFault, WantedFault, LentFault, RoomFault, either, sizeFaults, wordsFaults, runsFaults, designFaults, columnsFaults, Lowest}
 use Rattle.regular.specs.RefusalLaws.{lowest-none, lowest-at, words-least, none-lowest, lent-is}
 use Rattle.regular.specs.PlanLists.{planAt, HasPlan, BytesFault, plansFaults, wantedPlansFaults}
@@ -182,17 +182,20 @@ pub accepted-disguised : Lowest (runsFaults 4 1 disguised) 0
 accepted-disguised =
     lowest-none (runsFaults 4 1 disguised) (λ k f. ⊎-elim (size-none 4 1 size-4 k) (runs-none 4 3 disguised table-disguised no-short-disguised k) f)
 
-pub accepted-design : Lowest (designFaults 4 1 recordABC) 0
-accepted-design =
-    let e = holds-abc .columns in
-    lowest-none (designFaults 4 1 recordABC)
-    (λ k f. ⊎-elim (size-none 4 1 size-4 k)
-    (λ h. ⊎-elim (none k) (columns-none 4 3 (recordABC .columns) (e .smallest .columns .below) (e .smallest .columns .rank) (e .long) k) h) f)
+-- a record that holds an entry
+pub design-none : (d : Design) → Holds 4 3 (Entry 4 3 3) d → (k : ℕ) → designFaults 4 1 d k → ⊥
+design-none d h k f =
+    let e = h .columns in
+    ⊎-elim (size-none 4 1 size-4 k)
+    (λ p. ⊎-elim (none k) (columns-none 4 3 (d .columns) (e .smallest .columns .below) (e .smallest .columns .rank) (e .long) k) p) f
   where
-    none : (k : ℕ) → RecordFault 4 3 recordABC k → ⊥
-    none k (RecordFault.factors h) = h refl
-    none k (RecordFault.basics h) = h refl
-    none k (RecordFault.used f l p h) = h (past-front abc 12 f l)
+    none : (k : ℕ) → RecordFault 4 3 d k → ⊥
+    none k (RecordFault.factors n) = n (h .factors)
+    none k (RecordFault.basics n) = n (h .basics)
+    none k (RecordFault.used f l p n) = n (h .unused f l p)
+
+pub accepted-design : Lowest (designFaults 4 1 recordABC) 0
+accepted-design = lowest-none (designFaults 4 1 recordABC) (design-none recordABC holds-abc)
 
 -- runs that are not regular, refused by 6
 pub refused-runs : Lowest (runsFaults 3 1 (0 ∷ 1 ∷ 2 ∷ 4 ∷ [])) 6
