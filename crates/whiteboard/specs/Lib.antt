@@ -10,3 +10,4 @@ pub mod PlanInstances
 pub mod RefusalInstances
 pub mod AnswerInstances
 pub mod ResultInstances
+pub mod ListInstances

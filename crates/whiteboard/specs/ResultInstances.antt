@@ -137,7 +137,7 @@ pub plan-at : planAt 4 plans 1 ≡ abc
 plan-at = refl
 
 -- what holds of both holds of each plan of the list
-each-plan : (P : List ℕ → Type 0) → P abcd → P abc → (i : ℕ) → HasPlan 4 plans i → P (planAt 4 plans i)
+pub each-plan : (P : List ℕ → Type 0) → P abcd → P abc → (i : ℕ) → HasPlan 4 plans i → P (planAt 4 plans i)
 each-plan P a b i h =
     by-cases (ℕ-discrete i 0) (λ e. subst (λ (j : ℕ). P (planAt 4 plans j)) (sym e) a)
     (λ ne. let e : i ≡ 1 = omega arith in subst (λ (j : ℕ). P (planAt 4 plans j)) (sym e) b)
