@@ -11,3 +11,4 @@ pub mod RefusalInstances
 pub mod AnswerInstances
 pub mod ResultInstances
 pub mod ListInstances
+pub mod LawInstances
