@@ -12,3 +12,4 @@ pub mod AnswerInstances
 pub mod ResultInstances
 pub mod ListInstances
 pub mod LawInstances
+pub mod WordSets
