@@ -1,20 +1,18 @@
 -- Instances of what calls answer: each kind of answer accepted and refused, on the plans of ABC and ABCD.
 -- In the order of the definitions: refusals, comparisons, smallest form, catalogue, several plans, book.
-use mathlib.Core.Path.{_≡_, refl, sym, ap, subst, _∙_}
-use mathlib.Core.Logic.{_⊎_, ⊎-elim, inl, inr, by-cases}
-use mathlib.Core.List.{List, [], _∷_, _++_}
-use Prim.Native.Nat.{ℕ, zero, suc, _+_, _-_, _*_, _/_, _%_, _^_, _≤_, _<_}
+use mathlib.Core.Path.{_≡_, refl, subst}
+use mathlib.Core.Logic.{inl}
+use mathlib.Core.List.{List, [], _∷_}
+use Prim.Native.Nat.{ℕ, _-_, _≤_, _<_}
 use native.Mathlib.Omega.{arith}
-use native.Mathlib.Decide.{ℕ-discrete}
-use lib.ListN.{length, getD, take, drop, replicate}
+use lib.ListN.{length, getD}
 use Rattle.gf2.specs.Counts.{Count}
 use Rattle.regular.specs.Runs.{Runs, runsOf}
 use Rattle.regular.specs.Words.{Word, Generated, letters}
 use Rattle.regular.specs.Columns.{planOf}
 use Rattle.regular.specs.Pattern.{Pattern, Resolution, LessAberration, ofLength}
-use Rattle.regular.specs.Designs.{Holds, blank}
-use Rattle.regular.specs.Refusals.{LentFault, ResolutionFault, RoomFault, either, wordsFaults, runsFaults, designFaults, columnsFaults, Lowest, Gives, Fills, Chooses, HandsBack}
-use Rattle.regular.specs.RefusalLaws.{lowest-none, lowest-at, none-lowest, lowest-then, lowest-first, lowest-unique, lent-is}
+use Rattle.regular.specs.Refusals.{LentFault, either, wordsFaults, runsFaults, columnsFaults, Lowest, Gives, Fills, Chooses, HandsBack}
+use Rattle.regular.specs.RefusalLaws.{lowest-none, lowest-at, lowest-then, lowest-first, lowest-unique, lent-is}
 use Rattle.regular.specs.Same.{moved}
 use Rattle.regular.specs.Comparisons.{Differ, Compares, Witness, Checks, Told, comparedNumber, checkedNumber}
 use Rattle.regular.specs.declared.Compared.{Compared}

@@ -1,26 +1,26 @@
 -- Instances of what the laws ask for beyond the definitions: generators, a run to count distances from, a match of columns and none, and the steps of
 -- the walk through a catalogue.
-use mathlib.Core.Path.{_≡_, refl, sym, subst, _∙_}
+use mathlib.Core.Path.{_≡_, refl, sym, subst}
 use mathlib.Core.Logic.{_⊎_, inl, inr, by-cases, ⊎-elim}
 use mathlib.Core.Bool.{true, false, false≢true}
-use mathlib.Core.List.{List, [], _∷_, _++_}
-use Prim.Native.Nat.{ℕ, zero, suc, _+_, _*_, _^_, _≤_, _<_}
+use mathlib.Core.List.{List, [], _∷_}
+use Prim.Native.Nat.{ℕ, suc}
 use native.Mathlib.Omega.{arith}
 use native.Mathlib.Decide.{ℕ-discrete}
 use borrow.Author.Tests.{ltb-true}
 use lib.Count.{ones, onesIn}
 use lib.Dec.{ltb}
-use lib.ListN.{length, getD, replicate}
+use lib.ListN.{getD, replicate}
 use Rattle.gf2.specs.Counts.{Count}
 use Rattle.gf2.specs.Digits.{odd}
 use Rattle.gf2.specs.Lists.{listTo}
 use Rattle.gf2.specs.Truth.{clash}
-use Rattle.regular.specs.Runs.{runsOf, Agree}
+use Rattle.regular.specs.Runs.{runsOf}
 use Rattle.regular.specs.Words.{Word, Generated}
 use Rattle.regular.specs.Columns.{planOf, runOf, Below}
 use Rattle.regular.specs.Pattern.{Distances}
 use Rattle.regular.specs.RefusalLaws.{Lower}
-use Rattle.regular.specs.Same.{moved, Within, Carries, Same}
+use Rattle.regular.specs.Same.{moved, Within, Carries}
 use Rattle.regular.specs.Smallest.{Equal, Entry}
 use Rattle.standard.specs.Model.{runTable}
 use Rattle.words.specs.Generators.{Generators}
@@ -39,7 +39,7 @@ use Rattle.whiteboard.specs.GivenWords.{given-generators}
 use Rattle.whiteboard.specs.ListTests.{among, all, distinct, carried-witness}
 use Rattle.whiteboard.specs.PlanInstances.{runsABC, recordABC, recordABCD, holds-abc, holds-abcd, past-front, table-abc, distances-abc, bcd, below-abc, plain-abc, units-abc, different-abc-abcd, standard-form-abc, independent-abc}
 use Rattle.whiteboard.specs.Samples.{abc, abcd, catalogue-4}
-use Rattle.whiteboard.specs.Tests.{below, below-at, agree-at}
+use Rattle.whiteboard.specs.Tests.{below, below-at}
 
 -- no run past factor n; the word ABC generates the plan's words; the plan has 2^1 - 1 of them
 pub within-abc : Within 4 (planOf 4 3 abc)

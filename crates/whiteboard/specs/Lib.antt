@@ -13,3 +13,4 @@ pub mod ResultInstances
 pub mod ListInstances
 pub mod LawInstances
 pub mod WordSets
+pub mod ToldApart

@@ -2,26 +2,27 @@
 use mathlib.Core.Path.{_≡_, refl, sym, subst}
 use mathlib.Core.Logic.{⊎-elim, inl, inr, by-cases}
 use mathlib.Core.List.{List, [], _∷_, _++_}
-use Prim.Native.Nat.{ℕ, suc, _+_, _-_, _*_, _≤_, _<_}
+use Prim.Native.Nat.{ℕ, _+_, _-_, _*_, _≤_, _<_}
 use native.Mathlib.Omega.{arith}
 use native.Mathlib.Decide.{ℕ-discrete}
-use lib.ListN.{length, getD, take, drop, replicate}
-use Rattle.regular.specs.Book.{Book, each, Writes, WritesPlans, CountFault, bookFaults, bookLength}
-use Rattle.regular.specs.Catalogues.{Begins, Catalogues, ListsBytes, ListsDesigns, catalogueFaults}
+use lib.ListN.{getD, drop, replicate}
+use Rattle.regular.specs.Book.{Book, each, WritesPlans, WritesDesigns, CountFault}
+use Rattle.regular.specs.Catalogues.{ListsBytes, ListsDesigns, catalogueFaults}
 use Rattle.regular.specs.Columns.{planOf}
 use Rattle.regular.specs.Designs.{Holds, blank}
+use Rattle.regular.specs.declared.Design.{Design}
 use Rattle.regular.specs.Pattern.{Pattern}
-use Rattle.regular.specs.PlanLists.{planAt, HasPlan, plansFaults, wantedPlansFaults}
-use Rattle.regular.specs.RefusalLaws.{lowest-none, lowest-at, lowest-then, lowest-first, lent-is}
+use Rattle.regular.specs.PlanLists.{planAt, wantedRecordsFaults, wantedPlansFaults}
+use Rattle.regular.specs.RefusalLaws.{lowest-none, lowest-at, lowest-then}
 use Rattle.regular.specs.Refusals.{LentFault, ResolutionFault, RoomFault, WantedFault, either, sizeFaults, Lowest}
 use Rattle.regular.specs.Smallest.{Equal, Entry, Catalogue}
-use Rattle.regular.specs.declared.Design.{Design}
+use Rattle.words.specs.Switches.{pattern-agree}
 use Rattle.smallest_laws.specs.Dictionary.{equal-sym, equal-trans, equal-before, before-equal}
-use Rattle.smallest_laws.specs.Growth.{entry-equal}
+use Rattle.smallest_laws.specs.Growth.{entry-equal, plan-equal}
 use Rattle.catalogue_laws.specs.Demand.{catalogue-unique}
 use Rattle.whiteboard.specs.AnswerInstances.{lent-none, lent-few}
 use Rattle.whiteboard.specs.PlanInstances.{recordABC, recordABCD, holds-abc, holds-abcd, size-4, pattern-abc, pattern-abcd}
-use Rattle.whiteboard.specs.RefusalInstances.{size-none}
+use Rattle.whiteboard.specs.RefusalInstances.{size-none, design-none}
 use Rattle.whiteboard.specs.ResultInstances.{plans, plans-none, each-plan}
 use Rattle.whiteboard.specs.Samples.{abc, abcd, catalogue-4}
 use Rattle.whiteboard.specs.Tests.{below, agree-at}
@@ -205,6 +206,46 @@ writes-refused = record {
   refused = λ h. (refl, refl);
   whole = λ e. absurd (omega arith);
   book = λ e. absurd (omega arith);
+  rest = refl;
+  size = refl;
+}
+
+-- the same book of records
+abbrev pub twoRecords : List Design
+twoRecords = recordABCD ∷ recordABC ∷ []
+
+records-wanted : (k : ℕ) → wantedRecordsFaults 4 1 3 twoRecords k → ⊥
+records-wanted k f =
+    ⊎-elim
+    (λ p. ⊎-elim (size-none 4 1 size-4 k) (λ q. design-none (getD twoRecords (q .0) blank) (holds (q .0) (q .1 .0)) k (q .1 .1)) p)
+    (λ p. ⊎-elim (wanted-none k) (λ q. long (getD twoRecords (q .0) blank) (holds (q .0) (q .1 .0)) k (q .1 .1)) p) f
+  where
+    holds : (i : ℕ) → i < 2 → Holds 4 3 (Entry 4 3 3) (getD twoRecords i blank)
+    holds i h = by-cases (ℕ-discrete i 0) (λ e. rw e holds-abcd) (λ ne. let e : i ≡ 1 = omega arith in rw e holds-abc)
+    long : (d : Design) → Holds 4 3 (Entry 4 3 3) d → (k : ℕ) → WantedFault 4 3 (planOf 4 3 (d .columns)) k → ⊥
+    long d e k (WantedFault.short h) = omega (arith, h .few, e .columns .long (h .word) (h .is))
+
+-- a plan's pattern is that of its record
+record-pattern : (c d p : List ℕ) → Equal 4 c d → Pattern 4 (planOf 4 3 c) p → Pattern 4 (planOf 4 3 d) p
+record-pattern c d p e h = pattern-agree 4 (planOf 4 3 c) (planOf 4 3 d) (plan-equal 4 3 c d e) p h
+
+pub writes-designs : WritesDesigns 4 1 3 twoRecords (replicate 27 9) (book ++ (9 ∷ [])) 0 26
+unfolding each below
+writes-designs = record {
+  lowest = lowest-then (either (wantedRecordsFaults 4 1 3 twoRecords) (CountFault 2)) (LentFault 26 (replicate 27 9)) 0
+      (lowest-then (wantedRecordsFaults 4 1 3 twoRecords) (CountFault 2) 0 (lowest-none (wantedRecordsFaults 4 1 3 twoRecords) records-wanted) (lowest-none (CountFault 2) count-none))
+      (lent-none 26 (replicate 27 9) (omega arith));
+  refused = λ h. absurd (omega arith);
+  whole = λ e. refl;
+  book = λ e. record {
+    pattern = patternAt;
+    patterns = λ i h. by-cases (ℕ-discrete i 0)
+        (λ e. subst (λ (j : ℕ). Pattern 4 (planOf 4 3 (getD twoRecords j blank .columns)) (patternAt j)) (sym e)
+        (record-pattern abcd (recordABCD .columns) (patternAt 0) (agree-at (λ f. getD abcd f 0) (λ f. getD (recordABCD .columns) f 0) 4 refl) pattern-abcd))
+        (λ ne. let e : i ≡ 1 = omega arith in subst (λ (j : ℕ). Pattern 4 (planOf 4 3 (getD twoRecords j blank .columns)) (patternAt j)) (sym e)
+        (record-pattern abc (recordABC .columns) (patternAt 1) (agree-at (λ f. getD abc f 0) (λ f. getD (recordABC .columns) f 0) 4 refl) pattern-abc));
+    bytes = refl;
+  };
   rest = refl;
   size = refl;
 }

@@ -3,7 +3,7 @@ use mathlib.Core.Path.{_≡_, ap, _∙_}
 use mathlib.Core.Logic.{⊎-elim, inl, inr}
 use mathlib.Core.Bool.{Bool, true, false, not, _&&_, _||_, false≢true}
 use mathlib.Core.List.{List, [], _∷_}
-use Prim.Native.Nat.{ℕ, _^_, _<_}
+use Prim.Native.Nat.{ℕ, _^_}
 use native.Mathlib.Omega.{arith}
 use borrow.Author.Tests.{eqb-true, eq-eqb, ltb-true, not-true}
 use lib.Bits.{bitXor}
@@ -14,9 +14,9 @@ use Rattle.gf2.specs.Members.{In, Different}
 use Rattle.gf2.specs.Places.{different-once}
 use Rattle.gf2.specs.Truth.{and-both, or-cases, or-left, or-right, clash}
 use Rattle.regular.specs.Comparisons.{Witness}
-use Rattle.regular.specs.Runs.{runsOf, Table}
-use Rattle.regular.specs.Same.{moved, Renaming, Carries}
-use Rattle.whiteboard.specs.Tests.{every, Passed, passed, below, below-at}
+use Rattle.regular.specs.Runs.{Table}
+use Rattle.regular.specs.Same.{moved, Renaming}
+use Rattle.whiteboard.specs.Tests.{every, passed, below, below-at}
 
 -- x is a member
 unfoldable pub among : ℕ → List ℕ → Bool

@@ -2,53 +2,47 @@
 -- In the order of the definitions: sizes, runs, words, columns, pattern, designs, same plan, smallest form.
 use mathlib.Core.Path.{_≡_, refl, sym, ap, subst, _∙_}
 use mathlib.Core.Logic.{⊎-elim, inl, inr, by-cases}
-use mathlib.Core.Bool.{Bool, true, _&&_, _||_}
 use mathlib.Core.List.{List, [], _∷_, _++_}
-use Prim.Native.Nat.{ℕ, zero, suc, _-_, _^_, _≤_, _<_}
+use Prim.Native.Nat.{ℕ, zero, suc, _-_, _≤_, _<_}
 use native.Mathlib.Omega.{arith}
 use native.Mathlib.Decide.{ℕ-discrete}
-use borrow.Author.Tests.{eqb-true, ltb-true}
-use lib.Bits.{bitXor}
+use borrow.Author.Tests.{ltb-true}
 use lib.Count.{ones, onesIn}
-use lib.Dec.{eqb, ltb}
+use lib.Dec.{ltb}
 use lib.ListN.{length, getD, replicate}
 use Rattle.gf2.specs.Digits.{odd}
 use Rattle.gf2.specs.Fill.{zeros}
 use Rattle.gf2.specs.Lists.{listTo}
-use Rattle.gf2.specs.Members.{In, Different}
-use Rattle.gf2.specs.Truth.{and-both, or-cases}
 use Rattle.regular.specs.Sizes.{Size}
-use Rattle.regular.specs.Runs.{Runs, runsOf, switched, Agree, Regular, Table}
+use Rattle.regular.specs.Runs.{runsOf, switched, Regular, Table}
 use Rattle.regular.specs.Words.{Word, NoShort, Generated, total, Independent, Last, Reduced}
 use Rattle.regular.specs.Columns.{runOf, planOf, Below, Spans, Listed, RunTable, Basic, StandardColumns, RunsOfPlan}
-use Rattle.regular.specs.Pattern.{Pattern, Resolution, Distances, Better, LessAberration, ofLength}
+use Rattle.regular.specs.Pattern.{Pattern, sumTo, Resolution, Distances, Better, LessAberration, ofLength}
 use Rattle.regular.specs.Designs.{Holds}
 use Rattle.regular.specs.Comparisons.{Witness}
 use Rattle.regular.specs.Refusals.{Short}
-use Rattle.regular.specs.Same.{moved, Renaming, Carries, Same, Within}
-use Rattle.regular.specs.Smallest.{Rising, Equal, Before, Smallest, Entry, Catalogue, ReachesOne, Demand3}
+use Rattle.regular.specs.Same.{moved, Renaming, Same}
+use Rattle.regular.specs.Smallest.{Rising, Equal, Before, Smallest, Entry, ReachesOne, Demand3}
 use Rattle.regular.specs.declared.Design.{Design}
-use Rattle.standard.specs.Form.{unitsBefore, StandardForm, StandardFor, Plain, Repeat}
-use Rattle.standard.specs.Model.{runTable}
+use Rattle.standard.specs.Form.{unitsBefore, StandardFor, Plain, Repeat}
 use Rattle.standard.specs.Plans.{word-cancels, cancels-word}
 use Rattle.standard.specs.Runs.{total-lt}
 use Rattle.standard.specs.Units.{spread, unitsAt}
 use Rattle.words.specs.Model.{wordColumns, pivotsAt, freeBefore, reduced, lastOf}
 use Rattle.words.specs.ReducedWords.{words-columns-words}
 use Rattle.words.specs.Standards.{standard-form}
-use Rattle.words.specs.Switches.{agree-sym, pattern-agree}
+use Rattle.words.specs.Switches.{pattern-agree}
 use Rattle.words.specs.WordList.{wordsTo}
 use Rattle.counts.specs.Patterns.{pattern-unique}
 use Rattle.isomorphism_laws.specs.KeptWords.{same-pattern, same-no-short}
 use Rattle.isomorphism_laws.specs.Link.{Units}
-use Rattle.isomorphism_laws.specs.SamePlan.{same-refl}
 use Rattle.smallest_laws.specs.Beating.{smallest-units}
 use Rattle.smallest_laws.specs.Growth.{entry-equal}
 use Rattle.smallest_laws.specs.UnitForms.{rising-plain}
 use Rattle.catalogue_laws.specs.Demand.{Whole, whole}
 use Rattle.whiteboard.specs.ListTests.{among, all, distinct, not-among, carried-witness, tabled-table}
 use Rattle.whiteboard.specs.Samples.{abc, abcd, catalogue-4, words-abc, words-abcd, runs-abc, full-3, printed-samples}
-use Rattle.whiteboard.specs.Tests.{below, below-at, agree, agree-at, only-zero}
+use Rattle.whiteboard.specs.Tests.{below, below-at, agree-at, only-zero}
 
 -- sizes: an ordinary one, the least, one of the largest
 pub size-4 : Size 4 1
@@ -70,6 +64,10 @@ whole-4 = whole 4 3 3 2 (λ i. getD (abc ∷ abcd ∷ []) i []) (omega arith) ca
 pub table-abc : Table 4 3 runsABC
 unfolding listTo runOf odd ones onesIn
 table-abc = whole-4 .table 0 (omega arith)
+
+-- run 1 has A and C low: with A switched too, C alone
+pub switched-abc : switched 1 (runsOf runsABC) 4
+switched-abc = inr (inl refl)
 
 pub not-regular : Regular (runsOf (0 ∷ 1 ∷ 2 ∷ 4 ∷ [])) → ⊥
 not-regular h =
@@ -204,6 +202,10 @@ pattern-abc = pattern-agree 4 (Generated 4 1 (7 ∷ [])) (planOf 4 3 abc) (stand
 
 pub pattern-abcd : Pattern 4 (planOf 4 3 abcd) (0 ∷ 0 ∷ 0 ∷ 1 ∷ [])
 pattern-abcd = pattern-agree 4 (Generated 4 1 (15 ∷ [])) (planOf 4 3 abcd) (words-abcd .columns .plan) (0 ∷ 0 ∷ 0 ∷ 1 ∷ []) (words-abcd .pattern)
+
+pub sum-abc : sumTo 4 (0 ∷ 0 ∷ 1 ∷ 0 ∷ []) ≡ 1
+unfolding sumTo
+sum-abc = refl
 
 pub resolution-abc : Resolution 4 (Generated 4 1 (7 ∷ [])) 3
 resolution-abc = words-abc .resolution

@@ -2,25 +2,25 @@
 -- that is accepted in each of its forms.
 use mathlib.Core.Path.{_≡_, refl, sym, ap, subst, _∙_}
 use mathlib.Core.Logic.{⊎-elim, inl, inr, by-cases}
-use mathlib.Core.List.{List, [], _∷_, _++_}
-use Prim.Native.Nat.{ℕ, _-_, _*_, _^_, _≤_, _<_}
+use mathlib.Core.List.{List, [], _∷_}
+use Prim.Native.Nat.{ℕ, _-_, _^_, _≤_, _<_}
 use native.Mathlib.Omega.{arith}
 use native.Mathlib.Decide.{ℕ-discrete}
 use borrow.Author.Tests.{eqb-true, ltb-true}
 use lib.Count.{ones, onesIn}
 use lib.Dec.{eqb, ltb}
-use lib.ListN.{length, getD, replicate}
+use lib.ListN.{length, getD}
 use Rattle.gf2.specs.Digits.{odd}
 use Rattle.gf2.specs.Lists.{listTo}
-use Rattle.gf2.specs.Members.{In, Different}
+use Rattle.gf2.specs.Members.{In}
 use Rattle.regular.specs.Sizes.{Size}
 use Rattle.regular.specs.Runs.{runsOf, Agree, Table}
 use Rattle.regular.specs.Words.{Word, NoShort, Generated, Independent, total}
 use Rattle.regular.specs.Columns.{planOf, runOf, Below, Spans}
 use Rattle.regular.specs.Designs.{Holds}
-use Rattle.regular.specs.Refusals.{Short, SizeFault, ResolutionFault, WordsFault, ColumnsFault, ListFault, RecordFault, TableFault, WantedFault, LentFault, RoomFault, either, sizeFaults, wordsFaults, runsFaults, designFaults, columnsFaults, Lowest}
+use Rattle.regular.specs.Refusals.{SizeFault, ResolutionFault, WordsFault, ColumnsFault, ListFault, RecordFault, TableFault, WantedFault, LentFault, RoomFault, either, sizeFaults, wordsFaults, runsFaults, designFaults, columnsFaults, Lowest}
 use Rattle.regular.specs.RefusalLaws.{lowest-none, lowest-at, words-least, none-lowest, lent-is}
-use Rattle.regular.specs.PlanLists.{planAt, HasPlan, BytesFault, plansFaults, wantedPlansFaults}
+use Rattle.regular.specs.PlanLists.{BytesFault}
 use Rattle.regular.specs.Catalogues.{catalogueFaults}
 use Rattle.regular.specs.Book.{CountFault}
 use Rattle.regular.specs.Smallest.{Entry}
@@ -29,7 +29,7 @@ use Rattle.standard.specs.Total.{total-unit}
 use Rattle.words.specs.Short.{repeat-gives-short}
 use Rattle.words.specs.Switches.{agree-sym, no-short-agree}
 use Rattle.whiteboard.specs.ListTests.{all, all-at}
-use Rattle.whiteboard.specs.PlanInstances.{size-4, runsABC, whole-4, table-abc, not-regular, no-short-abc, short-abc, below-abc, spans-abc, not-spans, recordABC, dependent-twice, independent-abc, past-front, standard-abc, holds-abc, disguised, table-disguised, no-short-disguised, repeat-ab}
+use Rattle.whiteboard.specs.PlanInstances.{size-4, runsABC, whole-4, table-abc, not-regular, no-short-abc, short-abc, below-abc, spans-abc, not-spans, recordABC, dependent-twice, standard-abc, holds-abc, disguised, table-disguised, no-short-disguised, repeat-ab}
 use Rattle.whiteboard.specs.Samples.{abc, abcd, fives, catalogue-4, catalogue-5, words-abcd}
 use Rattle.whiteboard.specs.Tests.{below, below-at, only-zero}
 

@@ -1,40 +1,36 @@
 -- Instances of what calls write: the smallest form with its witness and place, catalogues, several plans in one list, and a book; accepted and refused.
-use mathlib.Core.Path.{_≡_, refl, sym, ap, subst, _∙_}
-use mathlib.Core.Logic.{⊎-elim, inl, inr, by-cases}
+use mathlib.Core.Path.{_≡_, refl, sym, ap, subst}
+use mathlib.Core.Logic.{⊎-elim, by-cases}
 use mathlib.Core.List.{List, [], _∷_, _++_}
-use Prim.Native.Nat.{ℕ, zero, suc, _+_, _-_, _*_, _≤_, _<_}
+use Prim.Native.Nat.{ℕ, _+_, _-_, _<_}
 use native.Mathlib.Omega.{arith}
 use native.Mathlib.Decide.{ℕ-discrete}
 use lib.Count.{ones, onesIn}
-use lib.ListN.{length, getD, take, drop, replicate}
+use lib.ListN.{getD}
 use Rattle.gf2.specs.Digits.{odd}
 use Rattle.gf2.specs.Lists.{listTo}
-use Rattle.regular.specs.Book.{Book, each, WritesPlans, CountFault, bookFaults, bookLength}
-use Rattle.regular.specs.Catalogues.{Begins, Catalogues, ListsBytes, ListsDesigns, catalogueFaults}
 use Rattle.regular.specs.Columns.{planOf, runOf}
-use Rattle.regular.specs.Designs.{Holds, blank}
-use Rattle.regular.specs.PlanLists.{planAt, HasPlan, BytesFault, recordsFaults, plansFaults, wantedPlansFaults}
+use Rattle.regular.specs.Designs.{blank}
+use Rattle.regular.specs.PlanLists.{planAt, HasPlan, BytesFault, recordsFaults, plansFaults}
 use Rattle.regular.specs.RefusalLaws.{lowest-none, none-lowest, lowest-then, lowest-first, lent-is}
-use Rattle.regular.specs.Refusals.{LentFault, ResolutionFault, RoomFault, WantedFault, either, sizeFaults, runsFaults, designFaults, columnsFaults, Lowest}
+use Rattle.regular.specs.Refusals.{LentFault, either, runsFaults, columnsFaults, Lowest}
 use Rattle.regular.specs.Runs.{runsOf}
-use Rattle.regular.specs.Same.{moved, Carries, Same}
-use Rattle.regular.specs.Smallest.{Equal, Before, Smallest, Entry, Catalogue}
+use Rattle.regular.specs.Same.{moved, Carries}
+use Rattle.regular.specs.Smallest.{Equal, Smallest}
 use Rattle.regular.specs.SmallestAnswers.{FirstPlace, DesignPlace, ColumnsPlace, Reduces, ReducesInto, ReducesEach}
 use Rattle.regular.specs.declared.Design.{Design}
-use Rattle.regular.specs.declared.SmallestAnswer.{SmallestAnswer}
 use Rattle.isomorphism_laws.specs.Moving.{carries-names}
 use Rattle.isomorphism_laws.specs.SamePlan.{carries-agree, carries-refl}
 use Rattle.isomorphism_laws.specs.Masks.{plan-within}
 use Rattle.isomorphism_laws.specs.Renamings.{kept}
 use Rattle.smallest_laws.specs.Beating.{smallest-moved}
-use Rattle.smallest_laws.specs.Dictionary.{equal-sym, equal-trans, equal-before, before-equal}
 use Rattle.smallest_laws.specs.Growth.{plan-equal, smallest-equal}
-use Rattle.catalogue_laws.specs.Demand.{catalogue-unique, plan-runs}
+use Rattle.catalogue_laws.specs.Demand.{plan-runs}
 use Rattle.words.specs.Switches.{agree-sym}
 use Rattle.whiteboard.specs.AnswerInstances.{five, lent-none, lent-few}
 use Rattle.whiteboard.specs.ListTests.{among, all, distinct, carried-witness}
-use Rattle.whiteboard.specs.PlanInstances.{runsABC, disguised, recordABC, recordABCD, holds-abc, holds-abcd, size-4, table-disguised, smallest-abc, whole-4}
-use Rattle.whiteboard.specs.RefusalInstances.{size-none, columns-none, design-none, accepted-columns, accepted-abcd, accepted-design, accepted-disguised}
+use Rattle.whiteboard.specs.PlanInstances.{runsABC, disguised, recordABC, recordABCD, holds-abc, holds-abcd, size-4, table-disguised, smallest-abc}
+use Rattle.whiteboard.specs.RefusalInstances.{size-none, design-none, accepted-columns, accepted-abcd, accepted-disguised}
 use Rattle.whiteboard.specs.Samples.{abc, abcd, catalogue-4}
 use Rattle.whiteboard.specs.Tests.{below, agree-at}
 

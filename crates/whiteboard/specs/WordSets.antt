@@ -11,11 +11,11 @@ use Rattle.gf2.specs.Parity.{odd-zero-l}
 use Rattle.regular.specs.Columns.{planOf, runOf}
 use Rattle.regular.specs.Runs.{Runs, runsOf, switched, Table}
 use Rattle.regular.specs.Same.{moved, Renaming, Carries, Same}
-use Rattle.regular.specs.Words.{Word, Reduced}
+use Rattle.regular.specs.Words.{Word}
 use Rattle.standard.specs.Form.{StandardForm, StandardFor}
 use Rattle.standard.specs.FromTable.{table-standard}
 use Rattle.standard.specs.Model.{standard}
-use Rattle.standard.specs.Runs.{run-zero, run-lt}
+use Rattle.standard.specs.Runs.{run-zero}
 use Rattle.words.specs.ReducedWords.{reduced-words}
 use Rattle.words.specs.Switches.{agree-sym, word-agree, word-switched, word-switched-back}
 use Rattle.words.specs.WordList.{wordsTo}
