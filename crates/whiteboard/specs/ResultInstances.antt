@@ -71,7 +71,7 @@ smallest-disguised =
     (record { names = names; mask = 9; carries = witness-back }) (holds-abc .columns .smallest)
 
 -- the smallest form of the disguise, found at place 2 of a list of records; and refused by 8 for a witness of two places
-records-none : (k : ℕ) → recordsFaults 4 1 records k → ⊥
+pub records-none : (k : ℕ) → recordsFaults 4 1 records k → ⊥
 records-none k f =
     ⊎-elim (size-none 4 1 size-4 k)
     (λ p. let i = p .0 in
