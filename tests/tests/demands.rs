@@ -67,8 +67,8 @@ fn every_definition_has_a_line_of_the_readers_pass_and_every_instance_is_proved(
     assert!(bare.is_empty(), "no instance of {bare:?}");
 
     let specs: String = files("specs", "antt").iter().map(|path| read(path)).collect();
-    let proved: String =
-        fs::read_dir(root().join("crates/whiteboard/specs")).expect("specs").map(|entry| read(&entry.expect("a file").path())).collect();
+    let folders = ["whiteboard", "instances"].map(|krate| fs::read_dir(root().join(format!("crates/{krate}/specs"))).expect("specs"));
+    let proved: String = folders.into_iter().flatten().map(|entry| read(&entry.expect("a file").path())).collect();
     let long = read(&root().join("tests/long/catalogues.rs"));
     let stands = |text: &str, name: &str| text.contains(&format!("\npub {name} :")) || text.contains(&format!("\n  pub {name} :"));
     let missing: Vec<String> = named(3).into_iter().filter(|name| !stands(&proved, name)).collect();

@@ -176,7 +176,7 @@ count-none : (k : ℕ) → CountFault 2 k → ⊥
 count-none k (CountFault.many h) = omega arith
 
 -- each plan has no word below 3
-plans-wanted : (k : ℕ) → wantedPlansFaults 4 1 3 plans k → ⊥
+pub plans-wanted : (k : ℕ) → wantedPlansFaults 4 1 3 plans k → ⊥
 plans-wanted k f =
     ⊎-elim (plans-none k)
     (λ p. ⊎-elim (wanted-none k)
@@ -214,7 +214,7 @@ writes-refused = record {
 abbrev pub twoRecords : List Design
 twoRecords = recordABCD ∷ recordABC ∷ []
 
-records-wanted : (k : ℕ) → wantedRecordsFaults 4 1 3 twoRecords k → ⊥
+pub records-wanted : (k : ℕ) → wantedRecordsFaults 4 1 3 twoRecords k → ⊥
 records-wanted k f =
     ⊎-elim
     (λ p. ⊎-elim (size-none 4 1 size-4 k) (λ q. design-none (getD twoRecords (q .0) blank) (holds (q .0) (q .1 .0)) k (q .1 .1)) p)
