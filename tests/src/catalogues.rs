@@ -3,7 +3,7 @@
 use crate::calls::{bytes, guarded, MARGIN};
 use crate::check::refusals::of_sizes;
 use crate::check::smallest::{no_word_below, smallest};
-use crate::guarded::plan_catalogue;
+use crate::guarded::{plan_catalogue, plan_pattern_of_columns};
 use crate::known::every_plan;
 use std::collections::BTreeSet;
 
@@ -107,4 +107,16 @@ pub fn confirm_entries(m: usize, r: usize, entries: &Entries) {
         assert!(no_word_below(r, entry), "entry {k} has a word below {r}: {entry:?}");
         assert_eq!(smallest(m, entry), *entry, "entry {k} is not a smallest form");
     }
+}
+
+/// How many different beginnings, from length 3 to m, the patterns of these plans have, and how many different patterns.
+pub fn patterns_and_beginnings(m: usize, entries: &Entries) -> (usize, usize) {
+    let mut whole = BTreeSet::new();
+    for entry in entries {
+        let (n, mut pattern) = (entry.len(), vec![0; entry.len()]);
+        assert_eq!(plan_pattern_of_columns(n, n - m, &bytes(entry), &mut pattern), 0, "{entry:?}");
+        whole.insert(pattern);
+    }
+    let beginnings: BTreeSet<&[u16]> = whole.iter().map(|pattern| &pattern[2.min(m)..m]).collect();
+    (beginnings.len(), whole.len())
 }

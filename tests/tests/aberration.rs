@@ -1,5 +1,6 @@
 //! The comparison of two lists of words by aberration.
 
+use plan_tests::catalogues::{entries, patterns_and_beginnings};
 use plan_tests::check::plan::Form;
 use plan_tests::compare::{compare_ranking, RANKING_ANSWERS};
 use plan_tests::random::Random;
@@ -91,5 +92,18 @@ fn damaged_pairs_are_refused_under_the_lowest_number_and_every_number_is_reached
     }
     for number in RANKING_ANSWERS {
         assert!(reached[number as usize] > 0, "never answered {number}: {reached:?}");
+    }
+}
+
+/// Document 000 ranks two plans at the first length of all where their patterns differ, document 01 from length 3 up to M: one ranking, since
+/// patterns that agree so far agree wholly. (000 has this for M up to 6, and for M 7 as a conjecture.)
+#[test]
+fn patterns_of_up_to_12_factors_that_agree_from_length_3_to_m_agree_wholly() {
+    for n in 1..=12 {
+        for m in 1..=n.min(7) {
+            let (whole, entries) = entries(n, n - m, 3, 10_000);
+            let (beginnings, patterns) = patterns_and_beginnings(m, &entries);
+            assert!(whole && beginnings == patterns, "{n} factors, {m} of them basic: {beginnings} beginnings of {patterns} patterns");
+        }
     }
 }

@@ -1,4 +1,5 @@
-//! docs/DEMANDS.md beside the repository: every definition, theorem, contract, wrong program and test that the page names is there.
+//! docs/DEMANDS.md beside the repository: every definition, theorem, contract, wrong program, test and instance that the page names is there, every
+//! definition of the paper has a line of the reader's pass, and its name no second meaning.
 
 use std::collections::BTreeSet;
 use std::fs;
@@ -44,6 +45,60 @@ fn declared(line: &str) -> Option<&str> {
         rest = rest.strip_prefix(word).unwrap_or(rest);
     }
     rest.split([' ', '(', '<', ':', '{']).next().filter(|name| !name.is_empty())
+}
+
+/// The names that the specifications of a crate define, laws left out.
+fn definitions(krate: &str) -> BTreeSet<String> {
+    let folder = root().join(format!("crates/{krate}/specs"));
+    let paths = fs::read_dir(folder).into_iter().flatten().map(|entry| entry.expect("a file").path());
+    let texts: Vec<String> = paths.map(|path| read(&path)).collect();
+    let defines = |line: &&str| ["pub record ", "pub data ", "abbrev pub ", "unfoldable pub "].iter().any(|start| line.starts_with(start));
+    texts.iter().flat_map(|text| text.lines()).filter(defines).filter_map(declared).map(str::to_string).collect()
+}
+
+#[test]
+fn every_definition_has_a_line_of_the_readers_pass_and_every_instance_is_proved() {
+    let page = read(&root().join("docs/DEMANDS.md"));
+    let rows = rows(&page, 4);
+    let named = |cell: usize| rows.iter().flat_map(move |row| names(&row[cell])).map(str::to_string).collect::<BTreeSet<_>>();
+    let unread: Vec<String> = definitions("regular").difference(&named(0)).cloned().collect();
+    assert!(unread.is_empty(), "no line for {unread:?}");
+    let bare: Vec<&String> = rows.iter().filter(|row| names(&row[3]).next().is_none()).map(|row| &row[0]).collect();
+    assert!(bare.is_empty(), "no instance of {bare:?}");
+
+    let specs: String = files("specs", "antt").iter().map(|path| read(path)).collect();
+    let folders = ["whiteboard", "instances"].map(|krate| fs::read_dir(root().join(format!("crates/{krate}/specs"))).expect("specs"));
+    let proved: String = folders.into_iter().flatten().map(|entry| read(&entry.expect("a file").path())).collect();
+    let long = read(&root().join("tests/long/catalogues.rs"));
+    let stands = |text: &str, name: &str| text.contains(&format!("\npub {name} :")) || text.contains(&format!("\n  pub {name} :"));
+    let missing: Vec<String> = named(3).into_iter().filter(|name| !stands(&proved, name)).collect();
+    assert!(missing.is_empty(), "no instance {missing:?}");
+    let known: BTreeSet<&str> = specs.lines().filter_map(declared).collect();
+    let unknown: Vec<String> = named(0)
+        .union(&named(2))
+        .filter(|name| !known.contains(name.as_str()) && !long.contains(&format!("fn {name}()")))
+        .cloned()
+        .collect();
+    assert!(unknown.is_empty(), "not in the repository: {unknown:?}");
+    assert!(named(3).len() > 100, "only {} instances on the page", named(3).len());
+}
+
+/// Names of the paper's definitions that another crate uses for a notion of its own.
+const SECOND_MEANINGS: [(&str, &str); 5] =
+    [("entries", "Before"), ("book", "Begins"), ("search", "Lowest"), ("search", "Same"), ("smallest_form", "Reduced")];
+
+#[test]
+fn names_of_the_papers_definitions_have_one_meaning() {
+    let own = definitions("regular");
+    let crates = fs::read_dir(root().join("crates")).expect("the folder crates");
+    let mut twice = Vec::new();
+    for krate in crates.map(|entry| entry.expect("a crate").file_name().into_string().expect("a name")).filter(|krate| krate != "regular") {
+        let again = definitions(&krate)
+            .into_iter()
+            .filter(|name| own.contains(name) && !SECOND_MEANINGS.contains(&(krate.as_str(), name.as_str())));
+        twice.extend(again.map(|name| format!("{name} in {krate}")));
+    }
+    assert!(twice.is_empty(), "defined anew: {twice:?}");
 }
 
 #[test]

@@ -29,11 +29,11 @@ copy-all xs ys zs i h l e =
     e ∙ ap (λ (k : ℕ). take k xs ++ drop k ys) q ∙ ap (λ (p : List ℕ). p ++ drop (length xs) ys) (take-length xs)
 
 -- the list zs begins with xs
-abbrev pub Begins : List ℕ → List ℕ → Type 0
-Begins xs zs = (i : ℕ) → i < length xs → getD zs i 0 ≡ getD xs i 0
+abbrev pub Starts : List ℕ → List ℕ → Type 0
+Starts xs zs = (i : ℕ) → i < length xs → getD zs i 0 ≡ getD xs i 0
 
 module _ (xs ys zs : List ℕ) (fits : length xs ≤ length ys) (c : Copied xs ys zs) where
-  pub copied-begins : Begins xs zs
+  pub copied-begins : Starts xs zs
   copied-begins i h = ap (λ (l : List ℕ). getD l i 0) c ∙ List·getD-append xs (drop (length xs) ys) 0 i h
 
   pub copied-past : drop (length xs) zs ≡ drop (length xs) ys

@@ -9,7 +9,7 @@ use lib.ListN.{length, drop, take, getD}
 use lib.Seq.{getD-take}
 use Rattle.regular.specs.Refusals.{LentFault, either, Lowest, Fills}
 use Rattle.regular.specs.RefusalLaws.{lowest-first, lowest-then, lowest-none, lowest-at, lent-is}
-use Rattle.lent.specs.Copied.{Copied, Begins, copied-begins, copied-past, copied-size}
+use Rattle.lent.specs.Copied.{Copied, Starts, copied-begins, copied-past, copied-size}
 
 -- what becomes of a lent list when the plan has the refusal `number`, 0 if accepted: k places are filled by a result
 pub record Lends (number k : ℕ) (Result : List ℕ → Type 0) (entry exit : List ℕ) (r : ℕ) : Type 0 where
@@ -45,9 +45,9 @@ lends-filled k Result ys zs h e r d = record {
   size = e;
 }
 
-pub lends-copied : (xs ys zs : List ℕ) → length xs ≤ length ys → Copied xs ys zs → Lends 0 (length xs) (Begins xs) ys zs 0
+pub lends-copied : (xs ys zs : List ℕ) → length xs ≤ length ys → Copied xs ys zs → Lends 0 (length xs) (Starts xs) ys zs 0
 lends-copied xs ys zs h c =
-    lends-filled (length xs) (Begins xs) ys zs h (copied-size xs ys zs h c) (copied-begins xs ys zs h c) (copied-past xs ys zs h c)
+    lends-filled (length xs) (Starts xs) ys zs h (copied-size xs ys zs h c) (copied-begins xs ys zs h c) (copied-past xs ys zs h c)
 
 -- what the result means
 pub lends-means : (number k : ℕ) (A B : List ℕ → Type 0) (ys zs : List ℕ) (r : ℕ) → (number ≡ 0 → A zs → B zs) → Lends number k A ys zs r → Lends number k B ys zs r
@@ -62,11 +62,11 @@ lent-none : (k : ℕ) (ys : List ℕ) → k ≤ length ys → (j : ℕ) → Lent
 lent-none k ys h j (LentFault.few l) = omega arith
 
 -- the first k places of an array, lent on
-pub lends-part : (k : ℕ) (arr ys zs : List ℕ) (r : ℕ) → k ≡ length (take k arr) → Lends 0 (length (take k arr)) (Begins (take k arr)) ys zs r
+pub lends-part : (k : ℕ) (arr ys zs : List ℕ) (r : ℕ) → k ≡ length (take k arr) → Lends 0 (length (take k arr)) (Starts (take k arr)) ys zs r
     → Lends 0 k (λ zs. (i : ℕ) → i < k → getD zs i 0 ≡ getD arr i 0) ys zs r
 lends-part k arr ys zs r e l =
     subst (λ (j : ℕ). Lends 0 j (λ zs. (i : ℕ) → i < k → getD zs i 0 ≡ getD arr i 0) ys zs r) (sym e)
-    (lends-means 0 (length (take k arr)) (Begins (take k arr)) (λ zs. (i : ℕ) → i < k → getD zs i 0 ≡ getD arr i 0) ys zs r
+    (lends-means 0 (length (take k arr)) (Starts (take k arr)) (λ zs. (i : ℕ) → i < k → getD zs i 0 ≡ getD arr i 0) ys zs r
     (λ _ b i h. b i (omega arith) ∙ getD-take k arr i 0 h) l)
 
 -- the call's contract, from the lowest fault of its plan

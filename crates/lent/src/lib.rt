@@ -2,7 +2,7 @@
 ghost use mathlib.Core.Path.{_≡_};
 ghost use Prim.Native.Nat.{_≤_};
 ghost use lib.ListN.{length};
-ghost use Rattle.lent.specs.Copied.{Copied, Begins};
+ghost use Rattle.lent.specs.Copied.{Copied, Starts};
 ghost use Rattle.lent.specs.Lends.{Lends};
 
 // The numbers of `numbers`, at the first places of `out`.
@@ -31,7 +31,7 @@ fn copy_bytes(bytes: &[u8], out: &mut [u8])
 
 // The numbers of `numbers` as a result: 8 if `out` has too few places, else 0 with `out` filled.
 pub fn lend_numbers(numbers: &[u16], out: &mut [u16]) -> u8
-    ensures { λ r. ⌜ Lends 0 (length (now (numbers .entry))) (Begins (now (numbers .entry))) (now (out .entry)) (now (out .exit)) r ⌝ }
+    ensures { λ r. ⌜ Lends 0 (length (now (numbers .entry))) (Starts (now (numbers .entry))) (now (out .entry)) (now (out .exit)) r ⌝ }
 {
     if out.len() < numbers.len() {
         return 8;
@@ -42,7 +42,7 @@ pub fn lend_numbers(numbers: &[u16], out: &mut [u16]) -> u8
 
 // The bytes of `bytes` as a result: 8 if `out` has too few places, else 0 with `out` filled.
 pub fn lend_bytes(bytes: &[u8], out: &mut [u8]) -> u8
-    ensures { λ r. ⌜ Lends 0 (length (now (bytes .entry))) (Begins (now (bytes .entry))) (now (out .entry)) (now (out .exit)) r ⌝ }
+    ensures { λ r. ⌜ Lends 0 (length (now (bytes .entry))) (Starts (now (bytes .entry))) (now (out .entry)) (now (out .exit)) r ⌝ }
 {
     if out.len() < bytes.len() {
         return 8;

@@ -11,7 +11,7 @@ use Rattle.regular.specs.Runs.{Runs, Agree, switched}
 use Rattle.words.specs.Switches.{agree-sym, pattern-agree, resolution-agree, distances-agree, pattern-switched, resolution-switched, distances-switched}
 use Rattle.counts.specs.Models.{firstLength}
 use Rattle.counts.specs.Resolutions.{resolution-of-pattern}
-use Rattle.lent.specs.Copied.{Begins}
+use Rattle.lent.specs.Copied.{Starts}
 use Rattle.lent.specs.Lends.{Lends, lends-means, lends-part, lends-fills}
 use Rattle.admission.specs.Admission.{Admission}
 use Rattle.measures.specs.Ready.{Ready, pattern-begins, distances-begins}
@@ -32,7 +32,7 @@ resolution-made {n} {s} {p} {number} {k} e c h = record {
 
 -- the first k places of a list p went into a lent list
 lends-start : (number k : ℕ) (Result : List ℕ → Type 0) (p ys zs : List ℕ) (r : ℕ) → number ≡ 0 → k ≤ length p
-    → (((i : ℕ) → i < k → getD zs i 0 ≡ getD p i 0) → Result zs) → Lends 0 (length (take k p)) (Begins (take k p)) ys zs r → Lends number k Result ys zs r
+    → (((i : ℕ) → i < k → getD zs i 0 ≡ getD p i 0) → Result zs) → Lends 0 (length (take k p)) (Starts (take k p)) ys zs r → Lends number k Result ys zs r
 lends-start number k Result p ys zs r e h means l =
     let size : k ≡ length (take k p) = omega (arith, length-take k p) in
     subst (λ (i : ℕ). Lends i k Result ys zs r) (sym e)
@@ -40,12 +40,12 @@ lends-start number k Result p ys zs r e h means l =
 
 -- the pattern in the first n places of p
 pub pattern-lends : {number n : ℕ} {s : Runs} {p ys zs : List ℕ} {r : ℕ} → number ≡ 0 → n ≤ length p → Pattern n s p
-    → Lends 0 (length (take n p)) (Begins (take n p)) ys zs r → Lends number n (Pattern n s) ys zs r
+    → Lends 0 (length (take n p)) (Starts (take n p)) ys zs r → Lends number n (Pattern n s) ys zs r
 pattern-lends {number} {n} {s} {p} {ys} {zs} {r} e h c = lends-start number n (Pattern n s) p ys zs r e h (λ same. pattern-begins n s p zs same c)
 
 -- the distance counts in the first n + 1 places of d
 pub distances-lends : {number n : ℕ} {s : Runs} {d ys zs : List ℕ} {r : ℕ} → number ≡ 0 → n + 1 ≤ length d → Distances n s 0 d
-    → Lends 0 (length (take (n + 1) d)) (Begins (take (n + 1) d)) ys zs r → Lends number (n + 1) (Distances n s 0) ys zs r
+    → Lends 0 (length (take (n + 1) d)) (Starts (take (n + 1) d)) ys zs r → Lends number (n + 1) (Distances n s 0) ys zs r
 distances-lends {number} {n} {s} {d} {ys} {zs} {r} e h c = lends-start number (n + 1) (Distances n s 0) d ys zs r e h (λ same. distances-begins n s 0 d zs same c)
 
 -- a plan s, admitted with the standard columns a

@@ -48,8 +48,8 @@ abbrev pub refusedWord : List ℕ
 refusedWord = 114 ∷ 101 ∷ 102 ∷ 117 ∷ 115 ∷ 101 ∷ 100 ∷ []
 
 -- the header: N, G, R, entry count
-abbrev pub header : ℕ → ℕ → ℕ → ℕ → List ℕ
-header n g r count = catalogueWord ++ next n ++ next g ++ next r ++ entriesWord ++ next count ++ newline
+abbrev pub headerLine : ℕ → ℕ → ℕ → ℕ → List ℕ
+headerLine n g r count = catalogueWord ++ next n ++ next g ++ next r ++ entriesWord ++ next count ++ newline
 
 -- the line of an entry: place, resolution, columns; then the counts for lengths 3 to n
 abbrev pub start : ℕ → ℕ → ℕ → List ℕ → List ℕ

@@ -4,7 +4,7 @@ ghost use mathlib.Core.List.{List, [], _∷_};
 ghost use Prim.Native.Nat.{ℕ, _+_, _*_, _≤_};
 ghost use lib.ListN.{length, take, drop};
 ghost use Rattle.io.specs.Counts.{Counts};
-ghost use Rattle.plans.specs.Text.{Adds, decimal, next, spaced, header, refused, start, entry, EntryLine};
+ghost use Rattle.plans.specs.Text.{Adds, decimal, next, spaced, headerLine, refused, start, entry, EntryLine};
 ghost use Rattle.plans.specs.Listed.{Listable};
 use regular::Design;
 
@@ -119,7 +119,7 @@ pub fn entry_line(n: usize, g: usize, place: usize, d: Design, out: &mut [u8]) -
 // The header: the size and the entry count.
 pub fn header_line(n: usize, g: usize, r: usize, count: usize, out: &mut [u8]) -> usize
     requires { ⌜ 734 ≤ length (now out) ⌝ }
-    ensures { λ res. ⌜ Counts res (now (out .exit)) × (take res (now (out .exit)) ≡ header n g r count) ⌝ }
+    ensures { λ res. ⌜ Counts res (now (out .exit)) × (take res (now (out .exit)) ≡ headerLine n g r count) ⌝ }
 {
     let a = add_text(b"catalogue", 0, out);
     let b = add_next(n as u64, a, out);

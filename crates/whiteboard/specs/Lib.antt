@@ -4,3 +4,13 @@ pub mod Products
 pub mod Rows
 pub mod RowLaws
 pub mod Whiteboard
+pub mod ListTests
+pub mod Samples
+pub mod PlanInstances
+pub mod RefusalInstances
+pub mod AnswerInstances
+pub mod ResultInstances
+pub mod ListInstances
+pub mod LawInstances
+pub mod WordSets
+pub mod ToldApart

@@ -1,1 +1,1 @@
-// The starred examples of document 01 as one computed table, proved from the definitions. No code.
+// The starred examples of document 01 as one computed table, and instances of every definition, proved from the definitions. No code.

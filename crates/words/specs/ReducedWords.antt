@@ -29,7 +29,7 @@ use Rattle.words.specs.FromWords.{words-standard}
 use Rattle.words.specs.ToWords.{wordAt, wordsOf, word-last, words-into, basic-last-of-none, other-last-of-one}
 use Rattle.words.specs.Generators.{Generators}
 use Rattle.words.specs.Letters.{last-unique, letter-one, total-cancels}
-use Rattle.words.specs.WordList.{isUnit, othersTo, wordsTo, Listed, listed, word-letters}
+use Rattle.words.specs.WordList.{isUnit, othersTo, wordsTo, WordsListed, listed, word-letters}
 
 -- a word of a plan is a word of any part of it
 pub word-same : (n : ℕ) (s t : Runs) (w : ℕ) → ((x : ℕ) → t x → s x) → Word n s w → Word n t w
@@ -46,7 +46,7 @@ module _ (n m : ℕ) (s : Runs) (a : List ℕ) (st : StandardFor n m s a) where
   abbrev letter : ℕ → ℕ
   letter i = getD (othersTo a n) i 0
 
-  L : Listed a n (othersTo a n) ws
+  L : WordsListed a n (othersTo a n) ws
   L = listed a n
 
   size : length (othersTo a n) ≡ g

@@ -34,7 +34,7 @@ wordsTo a zero = []
 wordsTo a (suc f) = choose (eqb (getD a f 0) (2 ^ unitsBefore a f)) (wordsTo a f) (wordsTo a f ++ (wordAt a f ∷ []))
 
 -- what stands in the lists of the first f factors: os of factors, ws of words
-pub record Listed (a : List ℕ) (f : ℕ) (os ws : List ℕ) : Type 0 where
+pub record WordsListed (a : List ℕ) (f : ℕ) (os ws : List ℕ) : Type 0 where
   pub count : length os + unitsBefore a f ≡ f
   pub size : length ws ≡ length os
   pub below : (i : ℕ) → i < length os → getD os i 0 < f
@@ -53,7 +53,7 @@ snoc-keep xs x i h = List·getD-append xs (x ∷ []) 0 i h
 snoc-last : (xs : List ℕ) (x i : ℕ) → length xs ≡ i → getD (xs ++ (x ∷ [])) i 0 ≡ x
 snoc-last xs x i h = getD-at xs x [] 0 i h
 
-listed-basic : (a : List ℕ) (f : ℕ) (os ws : List ℕ) → isUnit a f → unitsBefore a (suc f) ≡ unitsBefore a f + 1 → Listed a f os ws → Listed a (suc f) os ws
+listed-basic : (a : List ℕ) (f : ℕ) (os ws : List ℕ) → isUnit a f → unitsBefore a (suc f) ≡ unitsBefore a f + 1 → WordsListed a f os ws → WordsListed a (suc f) os ws
 listed-basic a f os ws b e L = record {
   count = omega (arith, L .count);
   size = L .size;
@@ -64,7 +64,7 @@ listed-basic a f os ws b e L = record {
   found = λ d h ne. L .found d (by-cases (ℕ-discrete d f) (λ q. absurd (ne (subst (isUnit a) (sym q) b))) (λ q. omega arith)) ne;
 }
 
-module _ (a : List ℕ) (f : ℕ) (os ws : List ℕ) (b : isUnit a f → ⊥) (L : Listed a f os ws) where
+module _ (a : List ℕ) (f : ℕ) (os ws : List ℕ) (b : isUnit a f → ⊥) (L : WordsListed a f os ws) where
   abbrev more : List ℕ
   more = os ++ (f ∷ [])
 
@@ -75,7 +75,7 @@ module _ (a : List ℕ) (f : ℕ) (os ws : List ℕ) (b : isUnit a f → ⊥) (L
       (λ q. subst (λ (k : ℕ). P k (getD more k 0)) (sym q) (subst (P (length os)) (sym (snoc-last os f (length os) refl)) new))
       (λ q. let l : i < length os = omega (arith, snoc-length os f) in subst (P i) (sym (snoc-keep os f i l)) (old i l))
 
-  listed-other : unitsBefore a (suc f) ≡ unitsBefore a f → Listed a (suc f) more (ws ++ (wordAt a f ∷ []))
+  listed-other : unitsBefore a (suc f) ≡ unitsBefore a f → WordsListed a (suc f) more (ws ++ (wordAt a f ∷ []))
   listed-other e = record {
     count = omega (arith, L .count, snoc-length os f);
     size = omega (arith, L .size, snoc-length os f, snoc-length ws (wordAt a f));
@@ -94,12 +94,12 @@ module _ (a : List ℕ) (f : ℕ) (os ws : List ℕ) (b : isUnit a f → ⊥) (L
   }
 
 listed-at : (a : List ℕ) (f : ℕ) (t : Bool) → eqb (getD a f 0) (2 ^ unitsBefore a f) ≡ t → unitsBefore a (suc f) ≡ unitsBefore a f + pick t 1 0
-    → Listed a f (othersTo a f) (wordsTo a f)
-    → Listed a (suc f) (choose t (othersTo a f) (othersTo a f ++ (f ∷ []))) (choose t (wordsTo a f) (wordsTo a f ++ (wordAt a f ∷ [])))
+    → WordsListed a f (othersTo a f) (wordsTo a f)
+    → WordsListed a (suc f) (choose t (othersTo a f) (othersTo a f ++ (f ∷ []))) (choose t (wordsTo a f) (wordsTo a f ++ (wordAt a f ∷ [])))
 listed-at a f true e u L = listed-basic a f (othersTo a f) (wordsTo a f) (eqb-true (getD a f 0) (2 ^ unitsBefore a f) e) u L
 listed-at a f false e u L = listed-other a f (othersTo a f) (wordsTo a f) (eqb-false (getD a f 0) (2 ^ unitsBefore a f) e) L (omega arith)
 
-pub listed : (a : List ℕ) (f : ℕ) → Listed a f (othersTo a f) (wordsTo a f)
+pub listed : (a : List ℕ) (f : ℕ) → WordsListed a f (othersTo a f) (wordsTo a f)
 unfolding othersTo wordsTo unitsBefore
 listed a zero = record {
   count = refl;

@@ -2,7 +2,7 @@
 use native.Mathlib.Omega.{arith}
 use borrow.Author.Needs.{needs}
 use lib.ListN.{length}
-use Rattle.lent.specs.Copied.{Begins}
+use Rattle.lent.specs.Copied.{Starts}
 use Rattle.lent.specs.Lends.{lends-short, lends-copied}
 use Rattle.lent.proofs.lend_bytes.Statement.{statement}
 use Rattle.lent.proofs.lend_bytes.Tie as tie
@@ -10,7 +10,7 @@ use Rattle.lent.proofs.lend_bytes.Tie as tie
 returns : tie.Need-returns
 returns c =
     let a = c .before .before .before .args in
-    lends-short (length (a .bytes .now)) (Begins (a .bytes .now)) (a .out .now) (omega arith)
+    lends-short (length (a .bytes .now)) (Starts (a .bytes .now)) (a .out .now) (omega arith)
 
 copy-bytes-requires : tie.Need-copy-bytes-requires
 copy-bytes-requires c κs = search needs

@@ -1,0 +1,37 @@
+-- What inner functions require is met: by the plans of ABC and ABCD, N 4, G 1. Requirements that are bounds of numbers alone are left out, and so are
+-- the states of loops: that these hold at the start, for any input, is a law of each.
+use mathlib.Core.Path.{refl}
+use mathlib.Core.List.{[], _∷_}
+use lib.ListN.{getD}
+use Rattle.words.specs.Standards.{form-cols}
+use Rattle.smallest_laws.specs.UnitForms.{rising-plain}
+use Rattle.measures.specs.Ready.{Ready}
+use Rattle.plan_lists.specs.Accepted.{AcceptedPlans, AcceptedRecords, plans-accepted, records-accepted}
+use Rattle.witness_check.specs.Names.{Named}
+use Rattle.regular.specs.RefusalLaws.{lowest-none}
+use Rattle.regular.specs.PlanLists.{wantedPlansFaults, wantedRecordsFaults}
+use Rattle.whiteboard.specs.ListInstances.{plans-wanted, records-wanted, twoRecords}
+use Rattle.whiteboard.specs.PlanInstances.{recordABC, witness-disguised, size-4, holds-abc, standard-form-abc}
+use Rattle.whiteboard.specs.ResultInstances.{plans}
+use Rattle.whiteboard.specs.Samples.{abc}
+use Rattle.whiteboard.specs.Tests.{below, agree-at}
+
+-- an admitted plan: measures, aberration, comparison, book
+pub ready-abc : Ready 4 1 (recordABC .columns)
+unfolding below
+ready-abc = record {
+  size = size-4;
+  form = form-cols 4 3 abc (recordABC .columns) (standard-form-abc .form) (agree-at (λ f. getD abc f 0) (λ f. getD (recordABC .columns) f 0) 4 refl);
+  plain = rising-plain 4 3 (recordABC .columns) (holds-abc .columns .smallest .columns);
+}
+
+-- plans that nothing is wrong with: the book's loops
+pub accepted-plans : AcceptedPlans 4 1 3 plans
+accepted-plans = plans-accepted 4 1 3 plans (lowest-none (wantedPlansFaults 4 1 3 plans) plans-wanted)
+
+pub accepted-records : AcceptedRecords 4 1 3 twoRecords
+accepted-records = records-accepted 4 1 3 twoRecords (lowest-none (wantedRecordsFaults 4 1 3 twoRecords) records-wanted)
+
+-- names of a claimed witness
+pub named-bcda : Named 4 (1 ∷ 2 ∷ 3 ∷ 0 ∷ [])
+named-bcda = record { count = refl; renaming = witness-disguised .carries .renaming }

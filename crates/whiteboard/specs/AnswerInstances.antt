@@ -1,0 +1,173 @@
+-- Instances of what calls answer: each kind of answer accepted and refused, on the plans of ABC and ABCD.
+-- In the order of the definitions: refusals, comparisons, smallest form, catalogue, several plans, book.
+use mathlib.Core.Path.{_≡_, refl, subst}
+use mathlib.Core.Logic.{inl}
+use mathlib.Core.List.{List, [], _∷_}
+use Prim.Native.Nat.{ℕ, _-_, _≤_, _<_}
+use native.Mathlib.Omega.{arith}
+use lib.ListN.{length, getD}
+use Rattle.gf2.specs.Counts.{Count}
+use Rattle.regular.specs.Runs.{Runs, runsOf}
+use Rattle.regular.specs.Words.{Word, Generated, letters}
+use Rattle.regular.specs.Columns.{planOf}
+use Rattle.regular.specs.Pattern.{Pattern, Resolution, LessAberration, ofLength}
+use Rattle.regular.specs.Refusals.{LentFault, either, wordsFaults, runsFaults, columnsFaults, Lowest, Gives, Fills, Chooses, HandsBack}
+use Rattle.regular.specs.RefusalLaws.{lowest-none, lowest-at, lowest-then, lowest-first, lowest-unique, lent-is}
+use Rattle.regular.specs.Same.{moved}
+use Rattle.regular.specs.Comparisons.{Differ, Compares, Witness, Checks, Told, comparedNumber, checkedNumber}
+use Rattle.regular.specs.declared.Compared.{Compared}
+use Rattle.regular.specs.declared.Checked.{Checked}
+use Rattle.isomorphism_laws.specs.Moving.{carries-names}
+use Rattle.whiteboard.specs.ListTests.{among, not-among}
+use Rattle.whiteboard.specs.PlanInstances.{runsABC, disguised, witness-disguised, pattern-abc, pattern-abcd, less-abcd, not-less, different-abc-abcd}
+use Rattle.whiteboard.specs.RefusalInstances.{refusal-7, refusal-8, refused-runs, accepted-disguised, accepted-columns, accepted-abcd, accepted-words, accepted-word-abcd, accepted-runs}
+use Rattle.whiteboard.specs.Samples.{abc, abcd, words-abc}
+use Rattle.whiteboard.specs.Tests.{below, agree-at}
+use Rattle.whiteboard.specs.Whiteboard.{wordsP, wordsQ, whiteboard}
+
+-- a lent list that is long enough has no fault
+pub lent-none : (k : ℕ) (out : List ℕ) → k ≤ length out → Lowest (LentFault k out) 0
+lent-none k out h = lowest-none (LentFault k out) none
+  where
+    none : (i : ℕ) → LentFault k out i → ⊥
+    none i (LentFault.few l) = omega arith
+
+-- a number and a value: the resolution of ABC, and of AB, which is refused
+pub gives-resolution : Gives (wordsFaults 4 1 (7 ∷ [])) (Resolution 4 (Generated 4 1 (7 ∷ []))) 0 0 3
+gives-resolution = record { number = accepted-words; refused = λ h. absurd (omega arith); result = λ e. words-abc .resolution }
+
+pub gives-refused : Gives (wordsFaults 3 1 (3 ∷ [])) (Resolution 3 (Generated 3 1 (3 ∷ []))) 0 7 0
+gives-refused = record { number = refusal-7; refused = λ h. refl; result = λ e. absurd (omega arith) }
+
+-- a lent list: the pattern of ABC in the first four of five places, and a list too short
+pattern-first : (n : ℕ) (s : Runs) (p q : List ℕ) → ((i : ℕ) → i < n → getD p i 0 ≡ getD q i 0) → Pattern n s p → Pattern n s q
+pattern-first n s p q e h = record { counts = λ l a b. subst (Count (λ w. Word n s w × (letters w ≡ l))) (e (l - 1) (omega arith)) (h .counts l a b) }
+
+abbrev pub five : List ℕ
+five = 9 ∷ 9 ∷ 9 ∷ 9 ∷ 9 ∷ []
+
+pub fills-pattern : Fills (either (columnsFaults 4 1 abc) (LentFault 4 five)) 4 (Pattern 4 (planOf 4 3 abc)) five (0 ∷ 0 ∷ 1 ∷ 0 ∷ 9 ∷ []) 0
+unfolding below
+fills-pattern = record {
+  number = lowest-then (columnsFaults 4 1 abc) (LentFault 4 five) 0 accepted-columns (lent-none 4 five (omega arith));
+  refused = λ h. absurd (omega arith);
+  result = λ e. pattern-first 4 (planOf 4 3 abc) (0 ∷ 0 ∷ 1 ∷ 0 ∷ []) (0 ∷ 0 ∷ 1 ∷ 0 ∷ 9 ∷ [])
+      (agree-at (λ i. getD (0 ∷ 0 ∷ 1 ∷ 0 ∷ []) i 0) (λ i. getD (0 ∷ 0 ∷ 1 ∷ 0 ∷ 9 ∷ []) i 0) 4 refl) pattern-abc;
+  past = λ e. refl;
+  size = refl;
+}
+
+pub lent-few : (k : ℕ) (out : List ℕ) → length out < k → Lowest (LentFault k out) 8
+lent-few k out h = lowest-at (LentFault k out) 8 (omega arith) (LentFault.few h) (λ i f. omega (arith, lent-is k out i f))
+
+pub fills-refused : Fills (either (columnsFaults 4 1 abc) (LentFault 4 (9 ∷ 9 ∷ []))) 4 (Pattern 4 (planOf 4 3 abc)) (9 ∷ 9 ∷ []) (9 ∷ 9 ∷ []) 8
+fills-refused = record {
+  number = lowest-then (columnsFaults 4 1 abc) (LentFault 4 (9 ∷ 9 ∷ [])) 8 accepted-columns (lent-few 4 (9 ∷ 9 ∷ []) (omega arith));
+  refused = λ h. refl;
+  result = λ e. absurd (omega arith);
+  past = λ e. refl;
+  size = refl;
+}
+
+-- the better of two lists of words: ABCD after ABC is chosen, ABC after ABCD is not, AB is refused
+pub chooses-second : Chooses (either (wordsFaults 4 1 (7 ∷ [])) (wordsFaults 4 1 (15 ∷ []))) (LessAberration 4 3 (Generated 4 1 (15 ∷ [])) (Generated 4 1 (7 ∷ []))) 2
+chooses-second = Chooses.second (lowest-then (wordsFaults 4 1 (7 ∷ [])) (wordsFaults 4 1 (15 ∷ [])) 0 accepted-words accepted-word-abcd) less-abcd
+
+pub chooses-first : Chooses (either (wordsFaults 4 1 (15 ∷ [])) (wordsFaults 4 1 (7 ∷ []))) (LessAberration 4 3 (Generated 4 1 (7 ∷ [])) (Generated 4 1 (15 ∷ []))) 1
+chooses-first = Chooses.first (lowest-then (wordsFaults 4 1 (15 ∷ [])) (wordsFaults 4 1 (7 ∷ [])) 0 accepted-word-abcd accepted-words) not-less
+
+-- two arguments with one list of faults
+twice : (F : ℕ → Type 0) (r : ℕ) → 0 < r → Lowest F r → Lowest (either F F) r
+twice F r h l = lowest-first F F r h l (λ k f. l .least k f .1)
+
+pub chooses-refused : Chooses (either (wordsFaults 3 1 (3 ∷ [])) (wordsFaults 3 1 (3 ∷ []))) (LessAberration 3 2 (Generated 3 1 (3 ∷ [])) (Generated 3 1 (3 ∷ []))) 0
+chooses-refused = Chooses.refused 7 (omega arith) (twice (wordsFaults 3 1 (3 ∷ [])) 7 (omega arith) refusal-7)
+
+pub hands-second : HandsBack {A = List ℕ} (either (wordsFaults 4 1 (7 ∷ [])) (wordsFaults 4 1 (15 ∷ []))) (LessAberration 4 3 (Generated 4 1 (15 ∷ [])) (Generated 4 1 (7 ∷ [])))
+    (7 ∷ []) (15 ∷ []) (15 ∷ []) (7 ∷ []) (15 ∷ [])
+hands-second = record {
+  better = λ l b. refl;
+  otherwise = λ l n. absurd (n less-abcd);
+  refused = λ k h l. absurd (omega (arith, lowest-unique both k 0 l accepted));
+}
+  where
+    both : ℕ → Type 0
+    both = either (wordsFaults 4 1 (7 ∷ [])) (wordsFaults 4 1 (15 ∷ []))
+    accepted : Lowest both 0
+    accepted = lowest-then (wordsFaults 4 1 (7 ∷ [])) (wordsFaults 4 1 (15 ∷ [])) 0 accepted-words accepted-word-abcd
+
+pub hands-empty : HandsBack {A = List ℕ} (either (wordsFaults 3 1 (3 ∷ [])) (wordsFaults 3 1 (3 ∷ []))) (LessAberration 3 2 (Generated 3 1 (3 ∷ [])) (Generated 3 1 (3 ∷ [])))
+    (3 ∷ []) (3 ∷ []) [] (3 ∷ []) []
+hands-empty = record {
+  better = λ l b. absurd (omega (arith, lowest-unique both 0 7 l refused));
+  otherwise = λ l n. absurd (omega (arith, lowest-unique both 0 7 l refused));
+  refused = λ k h l. refl;
+}
+  where
+    both : ℕ → Type 0
+    both = either (wordsFaults 3 1 (3 ∷ [])) (wordsFaults 3 1 (3 ∷ []))
+    refused : Lowest both 7
+    refused = twice (wordsFaults 3 1 (3 ∷ [])) 7 (omega arith) refusal-7
+
+-- the comparison: ABC and its disguise are the same, ABC and ABCD different from length 3 on, a witness of 4 for 5 factors is refused
+pub differ-at : Differ 4 (planOf 4 3 abc) (planOf 4 3 abcd) 3
+unfolding below
+differ-at =
+    Differ.at 3 (0 ∷ 0 ∷ 1 ∷ 0 ∷ []) (0 ∷ 0 ∷ 0 ∷ 1 ∷ []) pattern-abc pattern-abcd (omega arith) (omega arith) alike (λ e. omega arith)
+  where
+    alike : (k : ℕ) → 1 ≤ k → k < 3 → ofLength (0 ∷ 0 ∷ 1 ∷ 0 ∷ []) k ≡ ofLength (0 ∷ 0 ∷ 0 ∷ 1 ∷ []) k
+    alike k h l = agree-at (λ i. getD (0 ∷ 0 ∷ 1 ∷ 0 ∷ []) i 0) (λ i. getD (0 ∷ 0 ∷ 0 ∷ 1 ∷ []) i 0) 2 refl (k - 1) (omega arith)
+
+pub differ-nowhere : Differ 9 (Generated 9 3 wordsP) (Generated 9 3 wordsQ) 0
+differ-nowhere = whiteboard .1 .1 .1 .1 .1 .1 .1 .0 .length
+
+abbrev pub names : List ℕ
+names = 1 ∷ 2 ∷ 3 ∷ 0 ∷ 9 ∷ []
+
+abbrev pub tablesFaults : ℕ → Type 0
+tablesFaults = either (either (runsFaults 4 1 runsABC) (runsFaults 4 1 disguised)) (LentFault 4 five)
+
+accepted-tables : Lowest (either (runsFaults 4 1 runsABC) (runsFaults 4 1 disguised)) 0
+accepted-tables = lowest-then (runsFaults 4 1 runsABC) (runsFaults 4 1 disguised) 0 accepted-runs accepted-disguised
+
+pub compares-same : Compares tablesFaults 4 (runsOf runsABC) (runsOf disguised) (λ mask. mask < 16) five names (Compared.Same 9)
+unfolding below
+compares-same =
+    Compares.same 9
+    (lowest-then (either (runsFaults 4 1 runsABC) (runsFaults 4 1 disguised)) (LentFault 4 five) 0 accepted-tables (lent-none 4 five (omega arith)))
+    (carries-names 4 (runsOf runsABC) (runsOf disguised) (1 ∷ 2 ∷ 3 ∷ 0 ∷ []) names 9
+    (agree-at (λ f. getD names f 0) (λ f. getD (1 ∷ 2 ∷ 3 ∷ 0 ∷ []) f 0) 4 refl) (witness-disguised .carries))
+    (omega arith) refl refl
+
+pub compares-different : Compares (either (either (columnsFaults 4 1 abc) (columnsFaults 4 1 abcd)) (LentFault 4 five)) 4 (planOf 4 3 abc) (planOf 4 3 abcd) (λ mask. mask ≡ 0)
+    five five (Compared.Different 3)
+compares-different =
+    Compares.different 3
+    (lowest-then (either (columnsFaults 4 1 abc) (columnsFaults 4 1 abcd)) (LentFault 4 five) 0
+    (lowest-then (columnsFaults 4 1 abc) (columnsFaults 4 1 abcd) 0 accepted-columns accepted-abcd) (lent-none 4 five (omega arith)))
+    different-abc-abcd differ-at refl
+
+pub compares-refused : Compares (either (either (columnsFaults 5 1 (1 ∷ 2 ∷ 3 ∷ 4 ∷ 8 ∷ [])) (columnsFaults 5 1 (1 ∷ 2 ∷ 4 ∷ 7 ∷ 8 ∷ []))) (LentFault 5 (0 ∷ 0 ∷ 0 ∷ 0 ∷ []))) 5
+    (planOf 5 4 (1 ∷ 2 ∷ 3 ∷ 4 ∷ 8 ∷ [])) (planOf 5 4 (1 ∷ 2 ∷ 4 ∷ 7 ∷ 8 ∷ [])) (λ mask. mask ≡ 0) (0 ∷ 0 ∷ 0 ∷ 0 ∷ []) (0 ∷ 0 ∷ 0 ∷ 0 ∷ []) (Compared.Refused 8)
+compares-refused = Compares.refused 8 (omega arith) refusal-8 refl
+
+-- the check of a witness: with its mask, without it, and between runs that are not regular
+abbrev pub Claimed : ℕ → Type 0
+Claimed = Witness 4 runsABC disguised (1 ∷ 2 ∷ 3 ∷ 0 ∷ [])
+
+pub checks-yes : Checks (either (runsFaults 4 1 runsABC) (runsFaults 4 1 disguised)) (Claimed 9) Checked.Yes
+checks-yes = Checks.yes accepted-tables witness-disguised
+
+pub checks-no : Checks (either (runsFaults 4 1 runsABC) (runsFaults 4 1 disguised)) (Claimed 0) Checked.No
+unfolding among moved
+checks-no = Checks.no accepted-tables (λ w. not-among 0 disguised refl (w .carries .into 0 (inl refl)))
+
+pub checks-refused : Checks (either (runsFaults 3 1 (0 ∷ 1 ∷ 2 ∷ 4 ∷ [])) (runsFaults 3 1 (0 ∷ 1 ∷ 2 ∷ 4 ∷ []))) (Claimed 9) (Checked.Refused 6)
+checks-refused = Checks.refused 6 (omega arith) (twice (runsFaults 3 1 (0 ∷ 1 ∷ 2 ∷ 4 ∷ [])) 6 (omega arith) refused-runs)
+
+-- the same as plain numbers
+pub told-same : Told (Compares tablesFaults 4 (runsOf runsABC) (runsOf disguised) (λ mask. mask < 16) five names) comparedNumber 65545
+told-same = record { answer = Compared.Same 9; says = compares-same; is = refl }
+
+pub told-no : Told (Checks (either (runsFaults 4 1 runsABC) (runsFaults 4 1 disguised)) (Claimed 0)) checkedNumber 131072
+told-no = record { answer = Checked.No; says = checks-no; is = refl }

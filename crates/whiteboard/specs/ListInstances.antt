@@ -1,0 +1,251 @@
+-- Instances of the lists that calls fill: catalogues as bytes and as records, whole, too long for the list, and refused; and a book.
+use mathlib.Core.Path.{_≡_, refl, sym, subst}
+use mathlib.Core.Logic.{⊎-elim, inl, inr, by-cases}
+use mathlib.Core.List.{List, [], _∷_, _++_}
+use Prim.Native.Nat.{ℕ, _+_, _-_, _*_, _≤_, _<_}
+use native.Mathlib.Omega.{arith}
+use native.Mathlib.Decide.{ℕ-discrete}
+use lib.ListN.{getD, drop, replicate}
+use Rattle.regular.specs.Book.{Book, each, WritesPlans, WritesDesigns, CountFault}
+use Rattle.regular.specs.Catalogues.{ListsBytes, ListsDesigns, catalogueFaults}
+use Rattle.regular.specs.Columns.{planOf}
+use Rattle.regular.specs.Designs.{Holds, blank}
+use Rattle.regular.specs.declared.Design.{Design}
+use Rattle.regular.specs.Pattern.{Pattern}
+use Rattle.regular.specs.PlanLists.{planAt, wantedRecordsFaults, wantedPlansFaults}
+use Rattle.regular.specs.RefusalLaws.{lowest-none, lowest-at, lowest-then}
+use Rattle.regular.specs.Refusals.{LentFault, ResolutionFault, RoomFault, WantedFault, either, sizeFaults, Lowest}
+use Rattle.regular.specs.Smallest.{Equal, Entry, Catalogue}
+use Rattle.words.specs.Switches.{pattern-agree}
+use Rattle.smallest_laws.specs.Dictionary.{equal-sym, equal-trans, equal-before, before-equal}
+use Rattle.smallest_laws.specs.Growth.{entry-equal, plan-equal}
+use Rattle.catalogue_laws.specs.Demand.{catalogue-unique}
+use Rattle.whiteboard.specs.AnswerInstances.{lent-none, lent-few}
+use Rattle.whiteboard.specs.PlanInstances.{recordABC, recordABCD, holds-abc, holds-abcd, size-4, pattern-abc, pattern-abcd}
+use Rattle.whiteboard.specs.RefusalInstances.{size-none, design-none}
+use Rattle.whiteboard.specs.ResultInstances.{plans, plans-none, each-plan}
+use Rattle.whiteboard.specs.Samples.{abc, abcd, catalogue-4}
+use Rattle.whiteboard.specs.Tests.{below, agree-at}
+
+abbrev pub both : ℕ → List ℕ
+both i = getD (abc ∷ abcd ∷ []) i []
+
+-- the catalogue in other lists with the same columns
+like : (entry : ℕ → List ℕ) → Equal 4 abc (entry 0) → Equal 4 abcd (entry 1) → (i : ℕ) → i < 2 → Equal 4 (both i) (entry i)
+like entry a b i h =
+    by-cases (ℕ-discrete i 0) (λ e. subst (λ (j : ℕ). Equal 4 (both j) (entry j)) (sym e) a)
+    (λ ne. let e : i ≡ 1 = omega arith in subst (λ (j : ℕ). Equal 4 (both j) (entry j)) (sym e) b)
+
+catalogue-like : (entry : ℕ → List ℕ) → Equal 4 abc (entry 0) → Equal 4 abcd (entry 1) → Catalogue 4 3 3 2 entry
+catalogue-like entry a b =
+    let e = like entry a b in
+    record {
+      sound = λ i h. entry-equal 4 3 (both i) (entry i) (e i h) 3 (catalogue-4 .sound i h);
+      order = λ i j h l. equal-before 4 (entry i) (both i) (entry j) (equal-sym 4 (both i) (entry i) (e i (omega arith)))
+          (before-equal 4 (both i) (both j) (entry j) (catalogue-4 .order i j h l) (e j l));
+      complete = λ c k. let r = catalogue-4 .complete c k in
+          (r .0, (r .1 .0, equal-trans 4 (entry (r .0)) (both (r .0)) c (equal-sym 4 (both (r .0)) (entry (r .0)) (e (r .0) (r .1 .0))) (r .1 .1)));
+    }
+
+-- R 3 is no fault; R 2 is one
+wanted-none : (k : ℕ) → ResolutionFault 3 k → ⊥
+wanted-none k (ResolutionFault.outside h) = ⊎-elim (λ l. omega arith) (λ l. omega arith) h
+
+sizes-none : (k : ℕ) → sizeFaults 4 1 3 k → ⊥
+sizes-none k f = ⊎-elim (size-none 4 1 size-4 k) (wanted-none k) f
+
+-- room for both entries: no fault. Any catalogue of this size has two
+room-none : (room : ℕ → Type 0) → room 2 → (k : ℕ) → RoomFault 4 3 3 room k → ⊥
+room-none room h k (RoomFault.more total all c n) = n (subst room (catalogue-unique 4 3 3 2 total both all catalogue-4 c .0) h)
+
+accepted-room : (room : ℕ → Type 0) → room 2 → Lowest (catalogueFaults 4 1 3 room) 0
+accepted-room room h = lowest-none (catalogueFaults 4 1 3 room) (λ k f. ⊎-elim (sizes-none k) (room-none room h k) f)
+
+refused-room : (room : ℕ → Type 0) → (room 2 → ⊥) → Lowest (catalogueFaults 4 1 3 room) 9
+refused-room room h =
+    lowest-at (catalogueFaults 4 1 3 room) 9 (omega arith) (inr (RoomFault.more 2 both catalogue-4 h))
+    (λ k f. ⊎-elim (λ s. absurd (sizes-none k s)) (nine k) f)
+  where
+    nine : (k : ℕ) → RoomFault 4 3 3 room k → 9 ≤ k
+    nine k (RoomFault.more total all c n) = omega arith
+
+-- nine bytes for two entries of four columns: the catalogue, the last byte untouched
+abbrev nines : List ℕ
+nines = 9 ∷ 9 ∷ 9 ∷ 9 ∷ 9 ∷ 9 ∷ 9 ∷ 9 ∷ 9 ∷ []
+
+abbrev listed : List ℕ
+listed = 1 ∷ 2 ∷ 3 ∷ 4 ∷ 1 ∷ 2 ∷ 4 ∷ 7 ∷ 9 ∷ []
+
+pub lists-bytes : ListsBytes 4 1 3 nines listed 0 2
+unfolding below
+lists-bytes = record {
+  catalogues = record {
+    lowest = accepted-room (λ k. k * 4 ≤ 9) (omega arith);
+    whole = λ e. catalogue-like (λ i. drop (i * 4) listed)
+        (agree-at (λ f. getD abc f 0) (λ f. getD (drop (0 * 4) listed) f 0) 4 refl) (agree-at (λ f. getD abcd f 0) (λ f. getD (drop (1 * 4) listed) f 0) 4 refl);
+    fits = λ e. omega arith;
+    begins = λ e. absurd (omega arith);
+    none = λ h l. absurd (omega arith);
+  };
+  rest = refl;
+  size = refl;
+}
+
+-- five bytes: refused by 9, the first entry is there
+abbrev begun : List ℕ
+begun = 1 ∷ 2 ∷ 3 ∷ 4 ∷ 9 ∷ []
+
+begin-first : (total : ℕ) (all : ℕ → List ℕ) → Catalogue 4 3 3 total all → (entry : ℕ → List ℕ) → Equal 4 (entry 0) abc → (i : ℕ) → i < 1 → Equal 4 (entry i) (all i)
+begin-first total all c entry a i h =
+    let e : i ≡ 0 = omega arith in
+    subst (λ (j : ℕ). Equal 4 (entry j) (all j)) (sym e) (equal-trans 4 (entry 0) abc (all 0) a (catalogue-unique 4 3 3 2 total both all catalogue-4 c .1 0 (omega arith)))
+
+pub lists-nine : ListsBytes 4 1 3 (9 ∷ 9 ∷ 9 ∷ 9 ∷ 9 ∷ []) begun 9 1
+unfolding below
+lists-nine = record {
+  catalogues = record {
+    lowest = refused-room (λ k. k * 4 ≤ 5) (λ l. omega arith);
+    whole = λ e. absurd (omega arith);
+    fits = λ e. absurd (omega arith);
+    begins = λ e. record {
+      fits = omega arith;
+      full = λ l. omega arith;
+      first = λ total all c. begin-first total all c (λ i. drop (i * 4) begun) (agree-at (λ f. getD (drop (0 * 4) begun) f 0) (λ f. getD abc f 0) 4 refl);
+    };
+    none = λ h l. absurd (omega arith);
+  };
+  rest = refl;
+  size = refl;
+}
+
+-- R 2: refused by 3, nothing is there
+pub lists-three : ListsBytes 4 1 2 (9 ∷ []) (9 ∷ []) 3 0
+lists-three = record {
+  catalogues = record {
+    lowest = lowest-at (catalogueFaults 4 1 2 (λ k. k * 4 ≤ 1)) 3 (omega arith) (inl (inr (ResolutionFault.outside (inl (omega arith)))))
+        (λ k f. ⊎-elim (λ s. ⊎-elim (λ q. absurd (size-none 4 1 size-4 k q)) (three k) s) (nine k) f);
+    whole = λ e. absurd (omega arith);
+    fits = λ e. absurd (omega arith);
+    begins = λ e. absurd (omega arith);
+    none = λ h l. refl;
+  };
+  rest = refl;
+  size = refl;
+}
+  where
+    three : (k : ℕ) → ResolutionFault 2 k → 3 ≤ k
+    three k (ResolutionFault.outside h) = omega arith
+    nine : (k : ℕ) → RoomFault 4 3 2 (λ k. k * 4 ≤ 1) k → 3 ≤ k
+    nine k (RoomFault.more total all c n) = omega arith
+
+-- records: three places for two entries, the last untouched
+pub lists-designs : ListsDesigns 4 1 3 (blank ∷ blank ∷ blank ∷ []) (recordABC ∷ recordABCD ∷ blank ∷ []) 0 2
+unfolding below
+lists-designs = record {
+  catalogues = record {
+    lowest = accepted-room (λ k. k ≤ 3) (omega arith);
+    whole = λ e. catalogue-like (λ i. getD (recordABC ∷ recordABCD ∷ blank ∷ []) i blank .columns)
+        (agree-at (λ f. getD abc f 0) (λ f. getD (recordABC .columns) f 0) 4 refl) (agree-at (λ f. getD abcd f 0) (λ f. getD (recordABCD .columns) f 0) 4 refl);
+    fits = λ e. omega arith;
+    begins = λ e. absurd (omega arith);
+    none = λ h l. absurd (omega arith);
+  };
+  records = λ i h. by-cases (ℕ-discrete i 0) (λ e. rw e holds-abc) (λ ne. let e : i ≡ 1 = omega arith in rw e holds-abcd);
+  rest = refl;
+  size = refl;
+}
+
+-- the book of ABCD and ABC at R 3: 26 of 27 bytes; and refused by 8
+abbrev pub book : List ℕ
+book = 1 ∷ 4 ∷ 1 ∷ 3 ∷ 2 ∷ 0 ∷ 36 ∷ 1 ∷ 2 ∷ 4 ∷ 7 ∷ 68 ∷ 0 ∷ 0 ∷ 1 ∷ 0 ∷ 36 ∷ 1 ∷ 2 ∷ 3 ∷ 4 ∷ 68 ∷ 1 ∷ 0 ∷ 0 ∷ 0 ∷ []
+
+abbrev patternAt : ℕ → List ℕ
+patternAt i = getD ((0 ∷ 0 ∷ 0 ∷ 1 ∷ []) ∷ (0 ∷ 0 ∷ 1 ∷ 0 ∷ []) ∷ []) i []
+
+pub book-4 : Book 4 1 3 2 (planAt 4 plans) book
+unfolding each
+book-4 = record {
+  pattern = patternAt;
+  patterns = λ i h. by-cases (ℕ-discrete i 0)
+      (λ e. subst (λ (j : ℕ). Pattern 4 (planOf 4 3 (planAt 4 plans j)) (patternAt j)) (sym e) pattern-abcd)
+      (λ ne. let e : i ≡ 1 = omega arith in subst (λ (j : ℕ). Pattern 4 (planOf 4 3 (planAt 4 plans j)) (patternAt j)) (sym e) pattern-abc);
+  bytes = refl;
+}
+
+count-none : (k : ℕ) → CountFault 2 k → ⊥
+count-none k (CountFault.many h) = omega arith
+
+-- each plan has no word below 3
+pub plans-wanted : (k : ℕ) → wantedPlansFaults 4 1 3 plans k → ⊥
+plans-wanted k f =
+    ⊎-elim (plans-none k)
+    (λ p. ⊎-elim (wanted-none k)
+    (λ q. each-plan (λ c. WantedFault 4 3 (planOf 4 3 c) k → ⊥) (long abcd (catalogue-4 .sound 1 (omega arith)) k) (long abc (catalogue-4 .sound 0 (omega arith)) k)
+    (q .0) (q .1 .0) (q .1 .1)) p) f
+  where
+    long : (c : List ℕ) → Entry 4 3 3 c → (k : ℕ) → WantedFault 4 3 (planOf 4 3 c) k → ⊥
+    long c e k (WantedFault.short h) = omega (arith, h .few, e .long (h .word) (h .is))
+
+pub writes : WritesPlans 4 1 3 plans (replicate 27 9) (book ++ (9 ∷ [])) 0 26
+writes = record {
+  lowest = lowest-then (either (wantedPlansFaults 4 1 3 plans) (CountFault 2)) (LentFault 26 (replicate 27 9)) 0
+      (lowest-then (wantedPlansFaults 4 1 3 plans) (CountFault 2) 0 (lowest-none (wantedPlansFaults 4 1 3 plans) plans-wanted) (lowest-none (CountFault 2) count-none))
+      (lent-none 26 (replicate 27 9) (omega arith));
+  refused = λ h. absurd (omega arith);
+  whole = λ e. refl;
+  book = λ e. book-4;
+  rest = refl;
+  size = refl;
+}
+
+pub writes-refused : WritesPlans 4 1 3 plans (9 ∷ 9 ∷ []) (9 ∷ 9 ∷ []) 8 0
+writes-refused = record {
+  lowest = lowest-then (either (wantedPlansFaults 4 1 3 plans) (CountFault 2)) (LentFault 26 (9 ∷ 9 ∷ [])) 8
+      (lowest-then (wantedPlansFaults 4 1 3 plans) (CountFault 2) 0 (lowest-none (wantedPlansFaults 4 1 3 plans) plans-wanted) (lowest-none (CountFault 2) count-none))
+      (lent-few 26 (9 ∷ 9 ∷ []) (omega arith));
+  refused = λ h. (refl, refl);
+  whole = λ e. absurd (omega arith);
+  book = λ e. absurd (omega arith);
+  rest = refl;
+  size = refl;
+}
+
+-- the same book of records
+abbrev pub twoRecords : List Design
+twoRecords = recordABCD ∷ recordABC ∷ []
+
+pub records-wanted : (k : ℕ) → wantedRecordsFaults 4 1 3 twoRecords k → ⊥
+records-wanted k f =
+    ⊎-elim
+    (λ p. ⊎-elim (size-none 4 1 size-4 k) (λ q. design-none (getD twoRecords (q .0) blank) (holds (q .0) (q .1 .0)) k (q .1 .1)) p)
+    (λ p. ⊎-elim (wanted-none k) (λ q. long (getD twoRecords (q .0) blank) (holds (q .0) (q .1 .0)) k (q .1 .1)) p) f
+  where
+    holds : (i : ℕ) → i < 2 → Holds 4 3 (Entry 4 3 3) (getD twoRecords i blank)
+    holds i h = by-cases (ℕ-discrete i 0) (λ e. rw e holds-abcd) (λ ne. let e : i ≡ 1 = omega arith in rw e holds-abc)
+    long : (d : Design) → Holds 4 3 (Entry 4 3 3) d → (k : ℕ) → WantedFault 4 3 (planOf 4 3 (d .columns)) k → ⊥
+    long d e k (WantedFault.short h) = omega (arith, h .few, e .columns .long (h .word) (h .is))
+
+-- a plan's pattern is that of its record
+record-pattern : (c d p : List ℕ) → Equal 4 c d → Pattern 4 (planOf 4 3 c) p → Pattern 4 (planOf 4 3 d) p
+record-pattern c d p e h = pattern-agree 4 (planOf 4 3 c) (planOf 4 3 d) (plan-equal 4 3 c d e) p h
+
+pub writes-designs : WritesDesigns 4 1 3 twoRecords (replicate 27 9) (book ++ (9 ∷ [])) 0 26
+unfolding each below
+writes-designs = record {
+  lowest = lowest-then (either (wantedRecordsFaults 4 1 3 twoRecords) (CountFault 2)) (LentFault 26 (replicate 27 9)) 0
+      (lowest-then (wantedRecordsFaults 4 1 3 twoRecords) (CountFault 2) 0 (lowest-none (wantedRecordsFaults 4 1 3 twoRecords) records-wanted) (lowest-none (CountFault 2) count-none))
+      (lent-none 26 (replicate 27 9) (omega arith));
+  refused = λ h. absurd (omega arith);
+  whole = λ e. refl;
+  book = λ e. record {
+    pattern = patternAt;
+    patterns = λ i h. by-cases (ℕ-discrete i 0)
+        (λ e. subst (λ (j : ℕ). Pattern 4 (planOf 4 3 (getD twoRecords j blank .columns)) (patternAt j)) (sym e)
+        (record-pattern abcd (recordABCD .columns) (patternAt 0) (agree-at (λ f. getD abcd f 0) (λ f. getD (recordABCD .columns) f 0) 4 refl) pattern-abcd))
+        (λ ne. let e : i ≡ 1 = omega arith in subst (λ (j : ℕ). Pattern 4 (planOf 4 3 (getD twoRecords j blank .columns)) (patternAt j)) (sym e)
+        (record-pattern abc (recordABC .columns) (patternAt 1) (agree-at (λ f. getD abc f 0) (λ f. getD (recordABC .columns) f 0) 4 refl) pattern-abc));
+    bytes = refl;
+  };
+  rest = refl;
+  size = refl;
+}

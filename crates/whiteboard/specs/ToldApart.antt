@@ -1,0 +1,29 @@
+-- The plain numbers that the C planner gets tell a comparison's answers apart: no number stands for two of them.
+use mathlib.Core.Path.{_≡_, ap}
+use mathlib.Core.List.{List}
+use Prim.Native.Nat.{ℕ, _+_, _^_, _≤_, _<_}
+use native.Mathlib.Omega.{arith}
+use lib.Pow.{pow-mono}
+use Rattle.regular.specs.Comparisons.{Differ, Compares, comparedNumber}
+use Rattle.regular.specs.Runs.{Runs}
+use Rattle.regular.specs.declared.Compared.{Compared}
+
+-- a length where patterns differ is at most n
+differ-most : (n : ℕ) (s t : Runs) (l : ℕ) → Differ n s t l → l ≤ n
+differ-most n s t l (Differ.nowhere p a b) = omega arith
+differ-most n s t l (Differ.at k p q a b h m e ne) = m
+
+mask-most : (n : ℕ) → n ≤ 16 → (mask : ℕ) → mask < 2 ^ n → mask < 65536
+mask-most n h mask l = omega (arith, pow-mono {i = n} {j = 16} h)
+
+module _ (fault : ℕ → Type 0) (few : (k : ℕ) → fault k → k ≤ 9) (n : ℕ) (most : n ≤ 16) (s t : Runs) (Mask : ℕ → Type 0) (entry : List ℕ) where
+  pub told-apart : (x y : List ℕ) (a b : Compared) → Compares fault n s t Mask entry x a → Compares fault n s t Mask entry y b → comparedNumber a ≡ comparedNumber b → a ≡ b
+  told-apart x y a b (Compares.same m l c k p z) (Compares.same m2 l2 c2 k2 p2 z2) e = let q : m ≡ m2 = omega arith in ap Compared.Same q
+  told-apart x y a b (Compares.same m l c k p z) (Compares.different l2 o d f z2) e = absurd (omega (arith, mask-most n most m (c .within)))
+  told-apart x y a b (Compares.same m l c k p z) (Compares.refused r h o z2) e = absurd (omega (arith, few r (o .applies h)))
+  told-apart x y a b (Compares.different l o d f z) (Compares.same m l2 c k p z2) e = absurd (omega (arith, mask-most n most m (c .within)))
+  told-apart x y a b (Compares.different l o d f z) (Compares.different l2 o2 d2 f2 z2) e = let q : l ≡ l2 = omega arith in ap Compared.Different q
+  told-apart x y a b (Compares.different l o d f z) (Compares.refused r h o2 z2) e = absurd (omega (arith, few r (o2 .applies h)))
+  told-apart x y a b (Compares.refused r h o z) (Compares.same m l c k p z2) e = absurd (omega (arith, few r (o .applies h)))
+  told-apart x y a b (Compares.refused r h o z) (Compares.different l o2 d f z2) e = absurd (omega (arith, few r (o .applies h)))
+  told-apart x y a b (Compares.refused r h o z) (Compares.refused r2 h2 o2 z2) e = ap Compared.Refused e
