@@ -1,7 +1,7 @@
 -- Less aberration by the patterns, whichever lists hold them, and which list is handed back.
 use mathlib.Core.Path.{_≡_, refl, subst, _∙_}
 use mathlib.Core.List.{List}
-use Prim.Native.Nat.{ℕ, _-_, _≤_, _<_}
+use Prim.Native.Nat.{ℕ, _-_, _≤_}
 use native.Mathlib.Omega.{arith}
 use lib.ListN.{take}
 use Rattle.regular.specs.Runs.{Runs, Agree}
@@ -10,9 +10,7 @@ use Rattle.regular.specs.Columns.{planOf}
 use Rattle.regular.specs.Refusals.{either, Lowest, Chooses, HandsBack}
 use Rattle.words.specs.Switches.{agree-sym, pattern-agree}
 use Rattle.counts.specs.Patterns.{pattern-unique}
-use Rattle.admission.specs.Admission.{Admission}
-use Rattle.measures.specs.Ready.{Ready}
-use Rattle.measures.specs.Measured.{ready}
+use Rattle.admission.specs.Admission.{Admission, Ready, ready}
 use Rattle.regular.specs.RefusalLaws.{lowest-unique, Lower, lowest-lower, lower-none}
 
 -- the better of two patterns is better in every pair of lists that hold them

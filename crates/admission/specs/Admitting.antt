@@ -6,12 +6,13 @@ use mathlib.Core.List.{List}
 use native.Mathlib.Omega.{arith}
 use lib.ListN.{length, getD, replicate}
 use Rattle.gf2.specs.Members.{In, Different}
-use Rattle.regular.specs.Sizes.{Size}
+use Rattle.regular.specs.Sizes.{Size, Sized}
 use Rattle.regular.specs.Runs.{Runs, Table, runsOf, Agree}
 use Rattle.regular.specs.Words.{NoShort, Generated, Independent}
 use Rattle.regular.specs.Columns.{planOf, Below, Spans}
-use Rattle.regular.specs.Refusals.{Short, SizeFault, WordsFault, ColumnsFault, ListFault, RecordFault, TableFault, either, Lowest, columnsFaults}
-use Rattle.regular.specs.RefusalLaws.{lowest-none, lowest-at, lowest-same, lowest-first, lowest-then, size-most, words-least, columns-least, list-is, record-least, table-least}
+use Rattle.regular.specs.Refusals.{Short, SizeFault, ResolutionFault, WordsFault, ColumnsFault, ListFault, RecordFault, TableFault, either, Lowest, sizeFaults, columnsFaults}
+use Rattle.regular.specs.RefusalLaws.{lowest-none, lowest-at, lowest-same, lowest-first, lowest-then, size-most, resolution-is, words-least, columns-least, list-is, record-least, table-least}
+use Rattle.regular.specs.Accepted.{size-accepted, sizes-accepted}
 use Rattle.regular.specs.declared.Design.{Design}
 use Rattle.regular.specs.declared.Admitted.{Admitted}
 use Rattle.standard.specs.Form.{StandardFor, Plain}
@@ -37,14 +38,27 @@ size-2 n g some most h = lowest-at (SizeFault n g) 2 (omega arith) (SizeFault.ge
     least k (SizeFault.factors (inr p)) = absurd (omega arith)
     least k (SizeFault.generators p) = omega arith
 
-pub size-0 : (n g : ℕ) → Size n g → Lowest (SizeFault n g) 0
-size-0 n g z = lowest-none (SizeFault n g) never
-  where
-    never : (k : ℕ) → SizeFault n g k → ⊥
-    never k (SizeFault.factors (inl p)) = omega (arith, z .some)
-    never k (SizeFault.factors (inr p)) = omega (arith, z .most)
-    never k (SizeFault.generators (inl p)) = omega (arith, z .less)
-    never k (SizeFault.generators (inr p)) = omega (arith, z .few)
+-- the sizes, then the wanted resolution
+abbrev Bounds : ℕ → ℕ → ℕ → ℕ → Type 0
+Bounds n g r k = Lowest (sizeFaults n g r) k × (k ≡ 0 → Sized n g r) × (k ≤ 3)
+
+pub bounds-size : (n g r k : ℕ) → (k ≡ 0 → ⊥) → Lowest (SizeFault n g) k → Bounds n g r k
+bounds-size n g r k some l =
+    let low = size-most n g k (l .applies (omega arith)) in
+    (lowest-first (SizeFault n g) (ResolutionFault r) k (omega arith) l (λ j f. omega (arith, resolution-is r j f)), (λ e. absurd (some e)), omega arith)
+
+pub bounds-3 : (n g r k : ℕ) → k ≡ 0 → Lowest (SizeFault n g) k → (r < 3) ⊎ (16 < r) → Bounds n g r 3
+bounds-3 n g r k e l h = (
+  lowest-then (SizeFault n g) (ResolutionFault r) 3 (subst (Lowest (SizeFault n g)) e l)
+      (lowest-at (ResolutionFault r) 3 (omega arith) (ResolutionFault.outside h) (λ j f. omega (arith, resolution-is r j f))),
+  (λ z. absurd (omega arith)),
+  omega arith,
+)
+
+pub bounds-0 : (n g r : ℕ) → Size n g → 3 ≤ r → r ≤ 16 → Bounds n g r 0
+bounds-0 n g r z low high =
+    let s : Sized n g r = record { size = z; low = low; high = high } in
+    (sizes-accepted n g r s, (λ _. s), omega arith)
 
 -- a refusal
 pub refusal : (fault : ℕ → Type 0) (n g : ℕ) (s : Runs) (r : ℕ) → 0 < r → Lowest fault r → Admission fault n g s r (replicate 16 0)
@@ -73,7 +87,7 @@ plan-refusal plan n g s r h z l = refusal (either (SizeFault n g) plan) n g s r 
 pub accepted : (plan : ℕ → Type 0) (n g : ℕ) (s : Runs) (a : List ℕ) → Size n g → Lowest plan 0 → StandardFor n (n - g) s a → Plain n a → ((f : ℕ) → n ≤ f → getD a f 0 ≡ 0)
     → Admission (either (SizeFault n g) plan) n g s 0 a
 accepted plan n g s a z l st pl un = record {
-  lowest = lowest-then (SizeFault n g) plan 0 (size-0 n g z) l;
+  lowest = lowest-then (SizeFault n g) plan 0 (size-accepted n g z) l;
   refused = λ h. absurd (omega arith);
   size = λ _. z;
   standard = λ _. st;
@@ -273,7 +287,7 @@ columns-fault-same n m c d same k (ColumnsFault.short h) = ColumnsFault.short (s
 pub array-admission : (other : ℕ → Type 0) (n g : ℕ) (c d : List ℕ) (number : ℕ) (a : List ℕ) → Size n g → Lowest other 0 → ((f : ℕ) → f < n → getD c f 0 ≡ getD d f 0)
     → Columned n (n - g) c number a → Admission (either (SizeFault n g) (either other (ColumnsFault n (n - g) d))) n g (planOf n (n - g) d) number a
 array-admission other n g c d number a z l same k = record {
-  lowest = lowest-then (SizeFault n g) (either other (ColumnsFault n (n - g) d)) number (size-0 n g z)
+  lowest = lowest-then (SizeFault n g) (either other (ColumnsFault n (n - g) d)) number (size-accepted n g z)
       (lowest-then other (ColumnsFault n (n - g) d) number l
       (lowest-same (ColumnsFault n (n - g) c) (ColumnsFault n (n - g) d) number
       (columns-fault-same n (n - g) c d same) (columns-fault-same n (n - g) d c (λ f h. sym (same f h))) (k .lowest)));
@@ -292,7 +306,7 @@ answered fault n g s k r e a = subst (λ (v : Admitted). Admission fault n g s (
 -- .. where the plan is refused
 pub plan-answered : (plan : ℕ → Type 0) (n g : ℕ) (s : Runs) (k : ℕ) → 0 < k → Size n g → Lowest plan k → (r : Admitted) → r ≡ record { number = k; columns = replicate 16 0 }
     → Admission (either (SizeFault n g) plan) n g s (r .number) (r .columns)
-plan-answered plan n g s k h z l r e = answered (either (SizeFault n g) plan) n g s k r e (plan-refusal plan n g s k h (size-0 n g z) l)
+plan-answered plan n g s k h z l r e = answered (either (SizeFault n g) plan) n g s k r e (plan-refusal plan n g s k h (size-accepted n g z) l)
 
 pub array-answered : (n m : ℕ) (c : List ℕ) (k : ℕ) (r : Admitted) → r ≡ record { number = k; columns = replicate 16 0 } → 0 < k → Lowest (ColumnsFault n m c) k → Columned n m c (r .number) (r .columns)
 array-answered n m c k r e h l = subst (λ (v : Admitted). Columned n m c (v .number) (v .columns)) (sym e) (array-refused n m c k h l)

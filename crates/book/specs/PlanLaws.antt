@@ -15,9 +15,7 @@ use Rattle.regular.specs.Refusals.{Lowest, columnsFaults}
 use Rattle.regular.specs.RefusalLaws.{lowest-unique}
 use Rattle.regular.specs.PlanLists.{planAt, HasPlan, wantedPlansFaults}
 use Rattle.words.specs.Switches.{agree-sym, pattern-agree}
-use Rattle.admission.specs.Admission.{Admission}
-use Rattle.measures.specs.Ready.{Ready}
-use Rattle.measures.specs.Measured.{ready}
+use Rattle.admission.specs.Admission.{Admission, Ready, ready}
 use Rattle.plan_lists.specs.Accepted.{AcceptedPlans, plans-accepted}
 use Rattle.regular.specs.Book.{bookLength, headerLength}
 use Rattle.book.specs.Writing.{entryLength, PutEntry, Written, PlansWritten}

@@ -1,7 +1,7 @@
 // Words, columns and run tables turned into each other.
 ghost use mathlib.Core.Path.{_≡_};
-ghost use Prim.Native.Nat.{ℕ, _-_, _^_, _≤_, _<_};
-ghost use lib.ListN.{length, getD, replicate};
+ghost use Prim.Native.Nat.{_-_, _^_};
+ghost use lib.ListN.{getD, replicate};
 ghost use Rattle.regular.specs.Sizes.{Size};
 ghost use Rattle.regular.specs.Runs.{runsOf, switched};
 ghost use Rattle.regular.specs.Words.{Generated, Reduced};
@@ -80,15 +80,7 @@ fn lend_columns(n: usize, g: usize, plan: Admitted, out: &mut [u8]) -> u8
         return number;
     }
     let columns = plan.columns;
-    lend_first(n, columns, out)
-}
-
-// The first n columns, in a lent list.
-fn lend_first(n: usize, columns: [u8; 16], out: &mut [u8]) -> u8
-    requires { ⌜ n ≤ 16 ⌝ }
-    ensures { λ r. ⌜ Lends 0 n (ColumnsAt n columns) (now (out .entry)) (now (out .exit)) r ⌝ }
-{
-    lent::lend_bytes(&columns[..n], out)
+    lent::lend_first(n, columns, out)
 }
 
 // The reduced words of an admitted plan, in a lent list.

@@ -1,6 +1,6 @@
 -- Laws of the parity of shared digits: by digits, symmetric, linear in each argument, and every linear function of k digits is one.
 use mathlib.Core.Path.{_≡_, sym, ap, ap₂, _∙_}
-use Prim.Native.Nat.{ℕ, zero, suc, _+_, _-_, _*_, _/_, _%_, _^_, _<_, min}
+use Prim.Native.Nat.{ℕ, zero, suc, _+_, _*_, _/_, _%_, _^_, _<_, min}
 use native.Mathlib.Nat.{min-zero, two-pow-succ, mod-lt}
 use native.Mathlib.Omega.{arith}
 use lib.Bits.{bitXor, bitAnd, and-step, and-comm, and-zero-l, xor-shifted, shifted-half, shifted-even}

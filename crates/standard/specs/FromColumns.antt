@@ -1,7 +1,7 @@
 -- From columns to standard columns, through their run table. Rank m is: no run but the first is 0.
 use mathlib.Core.Path.{_≡_, refl, sym, ap, ap₂, _∙_, subst}
 use mathlib.Core.List.{List, [], _∷_}
-use Prim.Native.Nat.{ℕ, _-_, _^_, _<_}
+use Prim.Native.Nat.{ℕ, _^_, _<_}
 use lib.Bits.{bitXor, xor-self, xor-lt, xor-zero-r, xor-zero-l}
 use lib.Pow.{pow-pos}
 use lib.ListN.{getD}

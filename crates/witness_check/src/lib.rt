@@ -2,7 +2,6 @@
 ghost use mathlib.Core.Path.{_≡_};
 ghost use mathlib.Core.Bool.{true, false};
 ghost use Prim.Native.Nat.{_^_, _≤_, _<_};
-ghost use lib.Bits.{bitXor};
 ghost use Rattle.gf2.specs.Answers.{Tells};
 ghost use Rattle.regular.specs.Same.{moved};
 ghost use Rattle.regular.specs.Refusals.{runsFaults, either};

@@ -1,7 +1,6 @@
 -- `admission::admit_array` meets its contract: 5, 6 and 7 are met in this order. Assumes nothing.
 use borrow.Author.Tests.{not-true, not-false}
 use Rattle.regular.specs.Columns.{Below, planOf}
-use Prim.Native.Nat.{_-_}
 use native.Mathlib.Omega.{arith}
 use borrow.Author.Needs.{needs}
 use Rattle.admission.proofs.admit_array.Statement.{statement}
