@@ -7,9 +7,10 @@ ghost use Rattle.regular.specs.Runs.{runsOf, switched};
 ghost use Rattle.regular.specs.Words.{Generated, Reduced};
 ghost use Rattle.regular.specs.Columns.{planOf, Listed, RunTable, RunsOfPlan, StandardColumns};
 ghost use Rattle.regular.specs.Designs.{Holds, blank};
+ghost use Rattle.regular.specs.Smallest.{Equal};
 ghost use Rattle.regular.specs.Refusals.{wordsFaults, runsFaults, designFaults, columnsFaults, LentFault, either, Gives, Fills};
 ghost use Rattle.lent.specs.Lends.{Lends};
-ghost use Rattle.forms.specs.Made.{DesignMade, RunsMade, WordsAt, ColumnsAt};
+ghost use Rattle.forms.specs.Made.{DesignMade, RunsMade, WordsAt};
 use bits::power;
 use regular::Admitted;
 use regular::Design;
@@ -73,7 +74,7 @@ pub fn columns_of_runs(n: usize, g: usize, runs: &[u16], out: &mut [u8]) -> u8
 // The standard columns of an admitted plan, in a lent list.
 fn lend_columns(n: usize, g: usize, plan: Admitted, out: &mut [u8]) -> u8
     requires { ⌜ (plan .number ≡ 0 → Size n g) ⌝ }
-    ensures { λ r. ⌜ Lends (plan .number) n (ColumnsAt n (plan .columns)) (now (out .entry)) (now (out .exit)) r ⌝ }
+    ensures { λ r. ⌜ Lends (plan .number) n (λ zs. Equal n zs (plan .columns)) (now (out .entry)) (now (out .exit)) r ⌝ }
 {
     let number = plan.number;
     if number != 0 {

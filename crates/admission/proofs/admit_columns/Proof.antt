@@ -4,7 +4,8 @@ use borrow.Author.Needs.{needs}
 use Rattle.admission.proofs.admit_columns.Statement.{statement}
 use Rattle.admission.proofs.admit_columns.Tie as tie
 use Rattle.regular.specs.Accepted.{size-accepted}
-use Rattle.admission.specs.Admitting.{answered, array-admission, list-0, size-refusal, plan-refusal, list-4}
+use Rattle.admission.specs.Faults.{list-0, list-4}
+use Rattle.admission.specs.Admitting.{answered, array-admission, size-refusal, plan-refusal}
 use Rattle.regular.specs.Refusals.{columnsFaults, ListFault, either, ColumnsFault}
 use Rattle.regular.specs.Columns.{planOf}
 use Prim.Native.Nat.{_-_}

@@ -2,7 +2,7 @@
 use mathlib.Core.Logic.{inl, inr}
 use native.Mathlib.Omega.{arith}
 use borrow.Author.Needs.{needs}
-use Rattle.admission.specs.Admitting.{bounds-size, bounds-3, bounds-0}
+use Rattle.admission.specs.Faults.{bounds-size, bounds-3, bounds-0}
 use Rattle.admission.proofs.bounds_number.Statement.{statement}
 use Rattle.admission.proofs.bounds_number.Tie as tie
 

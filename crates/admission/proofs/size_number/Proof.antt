@@ -3,7 +3,7 @@ use native.Mathlib.Omega.{arith}
 use mathlib.Core.Logic.{inl, inr}
 use Rattle.regular.specs.Sizes.{Size}
 use Rattle.regular.specs.Accepted.{size-accepted}
-use Rattle.admission.specs.Admitting.{size-1, size-2}
+use Rattle.admission.specs.Faults.{size-1, size-2}
 use borrow.Author.Needs.{needs}
 use Rattle.admission.proofs.size_number.Statement.{statement}
 use Rattle.admission.proofs.size_number.Tie as tie
