@@ -3,7 +3,7 @@
 # account: 'own' if a fact of it no longer holds ('law' for a law); 'callee' if it calls a function that is not proved; 'place' if its proof file lost a place, so
 # that the proof rather than a fact fails. need: what the first error in its proof file names. quote: what that error says, in its own words, shortened:
 #   - of two types, sides or indices that differ, the statement of where they do, as computed if the error has that, else as printed;
-#   - of numbers at which a need fails, that list; of a goal that no proof was found of, that statement;
+#   - of numbers at which a need fails, the first three; of a goal that no proof was found of, that statement;
 #   - in each term modules and the way to a name are left out, and it ends in '..' after 60 bytes, at a blank; a term in the prover's own words is its head and '..'.
 
 function short(s) {
@@ -46,14 +46,14 @@ function terms(s,    part, count, k, said) {
     return said
 }
 
-# The numbers at which a need fails: those of terms that are not in the prover's own words.
-function numbers(s,    part, count, k, said, left) {
+# The numbers at which a need fails: the first three of terms that are not in the prover's own words.
+function numbers(s,    part, count, k, said, kept, left) {
     count = split(s, part, "`")
     for (k = 2; k < count; k += 2) {
-        if (own_words(short(part[k]))) left = ", .."
+        if (kept == 3 || own_words(short(part[k]))) left = ", .."
         else {
             sub(/,? *$/, "", part[k + 1])
-            said = said (said == "" ? "" : ", ") term(part[k]) part[k + 1]
+            said = said (kept++ ? ", " : "") term(part[k]) part[k + 1]
         }
     }
     return said == "" ? "" : said left

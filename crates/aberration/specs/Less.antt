@@ -30,7 +30,7 @@ pub less-better : (n m : ℕ) (t s : Runs) (p q : List ℕ) → m ≤ n → Patt
 less-better n m t s p q h tp sq l = better-same n m s t p q (l .p) (l .q) h tp sq (l .of-t) (l .of-s) (l .better)
 
 -- plans with the same runs
-pub less-agree : (n m : ℕ) (t s u v : Runs) → Agree t u → Agree s v → LessAberration n m t s → LessAberration n m u v
+less-agree : (n m : ℕ) (t s u v : Runs) → Agree t u → Agree s v → LessAberration n m t s → LessAberration n m u v
 less-agree n m t s u v a b l =
     record { p = l .p; q = l .q; of-t = pattern-agree n t u a (l .p) (l .of-t); of-s = pattern-agree n s v b (l .q) (l .of-s); better = l .better }
 

@@ -55,7 +55,7 @@ accepted plan n g s a z l st pl un = record {
 }
 
 -- columns of sizes in bounds
-pub array-refused : (n m : ℕ) (c : List ℕ) (k : ℕ) → 0 < k → Lowest (ColumnsFault n m c) k → Columned n m c k (replicate 16 0)
+array-refused : (n m : ℕ) (c : List ℕ) (k : ℕ) → 0 < k → Lowest (ColumnsFault n m c) k → Columned n m c k (replicate 16 0)
 array-refused n m c k h l = record {
   lowest = l;
   refused = λ _. refl;

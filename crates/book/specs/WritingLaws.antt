@@ -37,7 +37,7 @@ unfolding each
 each-same F G zero h = refl
 each-same F G (suc k) h = ap₂ _++_ (each-same F G k (λ j l. h j (omega arith))) (h k (omega arith))
 
-pub each-length : (F : ℕ → List ℕ) (e : ℕ) → ((j : ℕ) → length (F j) ≡ e) → (k : ℕ) → length (each F k) ≡ k * e
+each-length : (F : ℕ → List ℕ) (e : ℕ) → ((j : ℕ) → length (F j) ≡ e) → (k : ℕ) → length (each F k) ≡ k * e
 unfolding each
 each-length F e h zero = omega arith
 each-length F e h (suc k) = length-append (each F k) (F k) ∙ omega (arith, each-length F e h k, h k, suc-mul k e)
@@ -168,7 +168,7 @@ module _ (plans : ℕ → Type 0) (n count number k : ℕ) (out : List ℕ) (mos
   both : Lowest (either plans (CountFault count)) (f .low)
   both = lowest-lower plans (CountFault count) number (f .many) (f .low) own (f .counted) (f .lower)
 
-  pub refusal-lowest : Lowest (bookFaults plans n count out) k
+  refusal-lowest : Lowest (bookFaults plans n count out) k
   refusal-lowest =
       lending-lowest (either plans (CountFault count)) (f .low) (bookLength n count) out k both (λ j e. ⊎-elim (λ p. omega (arith, most j p)) (λ c. omega (arith, count-is count j c)) e) (f .lending)
 

@@ -12,7 +12,7 @@ use lib.Pow.{shr-shr, pow-lt, pow-pos}
 use Rattle.gf2.specs.Digits.{bit}
 
 -- the digit of a sum without carry
-pub differ-mod : (x y : ℕ) → x < 2 → y < 2 → differ x y ≡ (x + y) % 2
+differ-mod : (x y : ℕ) → x < 2 → y < 2 → differ x y ≡ (x + y) % 2
 differ-mod zero y hx hy = omega arith
 differ-mod (suc zero) zero hx hy = refl
 differ-mod (suc zero) (suc zero) hx hy = refl

@@ -73,7 +73,7 @@ words-least n g ws k (WordsFault.past i l h) = omega arith
 words-least n g ws k (WordsFault.dependent h) = omega arith
 words-least n g ws k (WordsFault.short h) = omega arith
 
-pub words-most : (n g : ℕ) (ws : List ℕ) (k : ℕ) → WordsFault n g ws k → k ≤ 7
+words-most : (n g : ℕ) (ws : List ℕ) (k : ℕ) → WordsFault n g ws k → k ≤ 7
 words-most n g ws k (WordsFault.count h) = omega arith
 words-most n g ws k (WordsFault.past i l h) = omega arith
 words-most n g ws k (WordsFault.dependent h) = omega arith
@@ -84,7 +84,7 @@ columns-least n m c k (ColumnsFault.above f l h) = omega arith
 columns-least n m c k (ColumnsFault.rank h) = omega arith
 columns-least n m c k (ColumnsFault.short h) = omega arith
 
-pub columns-most : (n m : ℕ) (c : List ℕ) (k : ℕ) → ColumnsFault n m c k → k ≤ 7
+columns-most : (n m : ℕ) (c : List ℕ) (k : ℕ) → ColumnsFault n m c k → k ≤ 7
 columns-most n m c k (ColumnsFault.above f l h) = omega arith
 columns-most n m c k (ColumnsFault.rank h) = omega arith
 columns-most n m c k (ColumnsFault.short h) = omega arith
@@ -97,7 +97,7 @@ record-least n m d k (RecordFault.factors h) = omega arith
 record-least n m d k (RecordFault.basics h) = omega arith
 record-least n m d k (RecordFault.used f l p h) = omega arith
 
-pub record-most : (n m : ℕ) (d : Design) (k : ℕ) → RecordFault n m d k → k ≤ 5
+record-most : (n m : ℕ) (d : Design) (k : ℕ) → RecordFault n m d k → k ≤ 5
 record-most n m d k (RecordFault.factors h) = omega arith
 record-most n m d k (RecordFault.basics h) = omega arith
 record-most n m d k (RecordFault.used f l p h) = omega arith
@@ -109,7 +109,7 @@ table-least n m t k (TableFault.repeated h) = omega arith
 table-least n m t k (TableFault.irregular h) = omega arith
 table-least n m t k (TableFault.short h) = omega arith
 
-pub table-most : (n m : ℕ) (t : List ℕ) (k : ℕ) → TableFault n m t k → k ≤ 7
+table-most : (n m : ℕ) (t : List ℕ) (k : ℕ) → TableFault n m t k → k ≤ 7
 table-most n m t k (TableFault.count h) = omega arith
 table-most n m t k (TableFault.past x i h) = omega arith
 table-most n m t k (TableFault.repeated h) = omega arith

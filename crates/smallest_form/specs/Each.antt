@@ -75,11 +75,11 @@ module _ (n g : ℕ) (plans : List ℕ) (low : Lowest (plansFaults n g plans) 0)
   pub plans-some : 1 ≤ n
   plans-some = accepted-size n g (λ k f. none-lowest (plansFaults n g plans) low k (inl f)) .some
 
-  pub plan-accepted : (i : ℕ) → HasPlan n plans i → Lowest (columnsFaults n g (planAt n plans i)) 0
+  plan-accepted : (i : ℕ) → HasPlan n plans i → Lowest (columnsFaults n g (planAt n plans i)) 0
   plan-accepted i h = lowest-none (columnsFaults n g (planAt n plans i)) (λ k f. none-lowest (plansFaults n g plans) low k (inr (inr (i, (h, f)))))
 
   -- a further plan begins where not all is done
-  pub plan-next : (base count : ℕ) → base ≡ count * n → base < length plans → HasPlan n plans count
+  plan-next : (base count : ℕ) → base ≡ count * n → base < length plans → HasPlan n plans count
   plan-next base count e h = by-cases (decLt (length plans) (suc count * n)) (λ l. absurd (none-lowest (plansFaults n g plans) low 4 (inr (inl (BytesFault.count (never l)))))) (λ l. omega arith)
     where
       never : length plans < suc count * n → (whole : ℕ) → length plans ≡ whole * n → ⊥

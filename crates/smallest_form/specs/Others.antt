@@ -16,7 +16,7 @@ pub records-most : (n g : ℕ) (list : List Design) (k : ℕ) → recordsFaults 
 records-most n g list k (inl s) = omega (arith, size-most n g k s)
 records-most n g list k (inr (i, (h, f))) = omega (arith, design-faults-most n g (getD list i blank) k f)
 
-pub plans-most : (n g : ℕ) (bytes : List ℕ) (k : ℕ) → plansFaults n g bytes k → k ≤ 8
+plans-most : (n g : ℕ) (bytes : List ℕ) (k : ℕ) → plansFaults n g bytes k → k ≤ 8
 plans-most n g bytes k (inl s) = omega (arith, size-most n g k s)
 plans-most n g bytes k (inr (inl (BytesFault.count h))) = omega arith
 plans-most n g bytes k (inr (inr (i, (h, f)))) = omega (arith, columns-faults-most n g (planAt n bytes i) k f)

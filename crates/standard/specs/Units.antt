@@ -70,7 +70,7 @@ unfolding unitsBefore
 units-next a f e = rw (borrow.Author.Tests.eq-eqb (getD a f 0) (2 ^ unitsBefore a f) e)
 
 module _ (n m : ℕ) (a : List ℕ) (s : StandardForm n m a) where
-  pub units-le : (f : ℕ) → f ≤ n → unitsBefore a f ≤ m
+  units-le : (f : ℕ) → f ≤ n → unitsBefore a f ≤ m
   units-le f h =
       let e : (n - f) + f ≡ n = omega arith in
       let g = units-mono a f (n - f) in
