@@ -1,7 +1,10 @@
 # Reads the log of a must-fail edit. A line for each function that was refused and for each law that an error names, its fields between tabs:
-#   name, account, need, reason
+#   name, account, need, quote
 # account: 'own' if a fact of it no longer holds ('law' for a law); 'callee' if it calls a function that is not proved; 'place' if its proof file lost a place, so
-# that the proof rather than a fact fails. need: the need that fails; of several the one that says most. reason: what the prover said of it, cut short.
+# that the proof rather than a fact fails. need: what the first error in its proof file names. quote: what that error says, in its own words, shortened:
+#   - of two types, sides or indices that differ, the statement of where they do, as computed if the error has that, else as printed;
+#   - of numbers at which a need fails, the first three; of a goal that no proof was found of, that statement;
+#   - in each term modules and the way to a name are left out, and it ends in '..' after 60 bytes, at a blank; a term in the prover's own words is its head and '..'.
 
 function short(s) {
     s = " " s
@@ -17,74 +20,91 @@ function short(s) {
 
 # The text cut at a blank before the end.
 function cut(s, end) {
-    if (length(s) <= end) return s
+    if (length(s) <= end || !index(substr(s, 1, end), " ")) return s
     s = substr(s, 1, end)
     sub(/ [^ ]*$/, "", s)
     return s " .."
 }
 
-# A side of a comparison: its head alone if the prover's own terms stand in it.
-function side(s) {
+# Whether a term is in the prover's own words.
+function own_words(s) {
+    return s ~ /Pre Post|Learnt|locals|bytes\]|\?[0-9]|^Post /
+}
+
+# A term, shortened.
+function term(s) {
     s = short(s)
-    if (s !~ /Pre Post|Learnt|locals|bytes\]|\?[0-9]/) return "`" cut(s, 60) "`"
-    if (match(s, /^[A-Z][A-Za-z]+/)) return "`" (substr(s, 1, RLENGTH) == "Post" ? "ensures" : substr(s, 1, RLENGTH)) " ..`"
+    if (!own_words(s)) return "`" cut(s, 60) "`"
+    if (match(s, /^[A-Z][A-Za-z]+/)) return "`" substr(s, 1, RLENGTH) " ..`"
     return "`..`"
 }
 
-# Two sides that should be one.
-function sides(wanted, found) {
-    if (side(wanted) == "`..`" && side(found) == "`..`") return "not what is promised"
-    return side(wanted) " against " side(found)
+# A statement with every term in it shortened.
+function terms(s,    part, count, k, said) {
+    count = split(s, part, "`")
+    for (k = 1; k <= count; k++) said = said (k % 2 ? part[k] : term(part[k]))
+    return said
 }
 
-# The first text between backquotes after a mark.
-function quoted_after(s, mark,    at) {
+# The numbers at which a need fails: the first three of terms that are not in the prover's own words.
+function numbers(s,    part, count, k, said, kept, left) {
+    count = split(s, part, "`")
+    for (k = 2; k < count; k += 2) {
+        if (kept == 3 || own_words(short(part[k]))) left = ", .."
+        else {
+            sub(/,? *$/, "", part[k + 1])
+            said = said (kept++ ? ", " : "") term(part[k]) part[k + 1]
+        }
+    }
+    return said == "" ? "" : said left
+}
+
+# The text from a mark on, without what stands before it; the text up to the first of an end.
+function from(s, mark,    at) {
     at = index(s, mark)
-    if (!at) return ""
-    s = substr(s, at + length(mark))
-    sub(/^[^`]*`/, "", s)
-    sub(/`.*/, "", s)
-    return s
+    return at ? substr(s, at) : ""
 }
 
-function reason(text,    part) {
-    if (text ~ /no proof was found of /) {
-        part = text
-        sub(/.*no proof was found of /, "", part)
+function after(s, mark) {
+    s = from(s, mark)
+    return substr(s, length(mark) + 1)
+}
+
+function upto(s, end,    at) {
+    at = index(s, end)
+    return at ? substr(s, 1, at + length(end) - 1) : s
+}
+
+# What an error says, shortened.
+function quote(text,    part) {
+    gsub(/ +/, " ", text)
+    if (text ~ /`search`: no proof of `/) {
+        part = upto(from(text, "no proof of `"), "` was found")
+        if (!own_words(short(part)) || !index(text, "no proof was found of ")) return terms(part)
+        part = from(text, "no proof was found of ")          # fields of the goal
         sub(/\. .*/, "", part)
-        return "no proof of " cut(short(part), 90)
+        return part
     }
-    if (text ~ /the goal fails, at /) {
-        part = text
-        sub(/.*the goal fails, at /, "", part)
+    if (index(text, "the goal fails, at ")) {
+        part = after(text, "the goal fails, at ")
         sub(/\. It read.*/, "", part)
-        gsub(/`/, "", part)
-        part = short(part)
-        if (part ~ /Pre Post|Learnt|locals/) return "does not follow"
-        return "fails at `" cut(part, 90) "`"
+        part = numbers(part)
+        return part == "" ? "the goal does not follow from what it read" : "the goal fails, at " part
     }
-    part = text
-    if (index(part, "computed as far as they go")) sub(/.*computed as far as they go/, "", part)
-    if (index(part, "the other has"))
-        return sides(quoted_after(part, "where one has"), quoted_after(part, "the other has"))
-    if (index(text, "the two indices are"))
-        return sides(quoted_after(text, "the two indices are"), quoted_after(text, "(the constructor's) and"))
-    if (text ~ /no proof of `reads\.Post /) return "no proof of what the contract promises"
-    if (index(text, "no proof of ")) return "no proof of " side(quoted_after(text, "no proof of "))
-    if (index(text, "but this has type"))
-        return sides(quoted_after(text, "expected type"), quoted_after(text, "but this has type"))
-    return cut(short(text), 90)
+    part = after(text, "computed as far as they go, ")
+    if (part == "") part = after(text, "as printed, ")
+    if (part == "") part = text
+    if (index(part, "the two indices are")) return terms(upto(part, "(the expected type's)"))
+    if (index(part, "(found)")) return terms(upto(part, "(found)"))
+    if (index(part, "but this has type `")) return terms(upto(part, "but this has type `") upto(after(part, "but this has type `"), "`"))
+    sub(/\. [A-Z].*/, "", part)
+    return terms(part)
 }
 
 # Whether an error says that a fact does not hold.
 function of_a_fact(need, text) {
     if (need ~ /-spec$/) return 0
     return text ~ /the goal does not follow|no proof of|the two (types|sides) (first )?differ|the two indices are|but this has type|are absurd/
-}
-
-# Of several needs that fail, the one that says most is kept: one said in full, then one of a return.
-function worth(need, said) {
-    return 2 * (said !~ /\.\.|does not follow|not what is promised/) + (need ~ /^returns/)
 }
 
 # Takes up the error that was read last: its first line and the lines after it.
@@ -102,7 +122,7 @@ function take_error(    place, need, text, name, names, k) {
     if (text ~ /was not admitted/) return
     sub(/:[0-9]+:[0-9]+$/, "", place)
     if (place !~ /\/proofs\/.*\/Proof\.antt$/) {
-        if (!(need in laws)) { laws[need] = reason(text); law[++law_count] = need }
+        if (!(need in laws)) { laws[need] = quote(text); law[++law_count] = need }
         return
     }
     name = place
@@ -111,10 +131,9 @@ function take_error(    place, need, text, name, names, k) {
     for (k = split(name, names, "+"); k > 1; k--) if (index(need, names[k] "-") == 1) break   # several functions in a cycle: the need names one
     name = names[k]
     if (!of_a_fact(need, text)) lost[name] = need
-    text = reason(text)
-    if (!(name in first) || worth(need, text) > worth(first[name], why[name])) {
+    if (!(name in first)) {
         first[name] = need
-        why[name] = text
+        why[name] = quote(text)
     }
 }
 
@@ -131,8 +150,9 @@ function take_error(    place, need, text, name, names, k) {
     if ($0 ~ /it calls/) account = "callee"
     else if ($0 ~ /: no proof: /) {
         if ($0 !~ /does not close/) account = "place"
-        first[bare] = quoted_after($0, "does not close")
-        why[bare] = reason(note)
+        first[bare] = upto(after($0, "does not close `"), "`")
+        sub(/`$/, "", first[bare])
+        why[bare] = quote(note)
     }
     else if (!(bare in first)) account = "callee"            # it calls in a cycle, and another of the cycle is not proved
     else if (bare in lost) account = "place"

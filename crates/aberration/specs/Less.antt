@@ -1,7 +1,7 @@
 -- Less aberration by the patterns, whichever lists hold them, and which list is handed back.
 use mathlib.Core.Path.{_≡_, refl, subst, _∙_}
 use mathlib.Core.List.{List}
-use Prim.Native.Nat.{ℕ, _-_, _≤_, _<_}
+use Prim.Native.Nat.{ℕ, _-_, _≤_}
 use native.Mathlib.Omega.{arith}
 use lib.ListN.{take}
 use Rattle.regular.specs.Runs.{Runs, Agree}
@@ -10,9 +10,7 @@ use Rattle.regular.specs.Columns.{planOf}
 use Rattle.regular.specs.Refusals.{either, Lowest, Chooses, HandsBack}
 use Rattle.words.specs.Switches.{agree-sym, pattern-agree}
 use Rattle.counts.specs.Patterns.{pattern-unique}
-use Rattle.admission.specs.Admission.{Admission}
-use Rattle.measures.specs.Ready.{Ready}
-use Rattle.measures.specs.Measured.{ready}
+use Rattle.admission.specs.Admission.{Admission, Ready, ready}
 use Rattle.regular.specs.RefusalLaws.{lowest-unique, Lower, lowest-lower, lower-none}
 
 -- the better of two patterns is better in every pair of lists that hold them
@@ -32,7 +30,7 @@ pub less-better : (n m : ℕ) (t s : Runs) (p q : List ℕ) → m ≤ n → Patt
 less-better n m t s p q h tp sq l = better-same n m s t p q (l .p) (l .q) h tp sq (l .of-t) (l .of-s) (l .better)
 
 -- plans with the same runs
-pub less-agree : (n m : ℕ) (t s u v : Runs) → Agree t u → Agree s v → LessAberration n m t s → LessAberration n m u v
+less-agree : (n m : ℕ) (t s u v : Runs) → Agree t u → Agree s v → LessAberration n m t s → LessAberration n m u v
 less-agree n m t s u v a b l =
     record { p = l .p; q = l .q; of-t = pattern-agree n t u a (l .p) (l .of-t); of-s = pattern-agree n s v b (l .q) (l .of-s); better = l .better }
 

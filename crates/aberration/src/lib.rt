@@ -1,13 +1,12 @@
 // The one of two lists of words whose plan has less aberration.
 ghost use mathlib.Core.Path.{_≡_};
 ghost use mathlib.Core.Bool.{true, false};
-ghost use Prim.Native.Nat.{ℕ, _-_};
-ghost use lib.ListN.{length, getD};
+ghost use Prim.Native.Nat.{_-_};
 ghost use Rattle.regular.specs.Words.{Generated};
 ghost use Rattle.regular.specs.Columns.{planOf};
 ghost use Rattle.regular.specs.Pattern.{LessAberration};
 ghost use Rattle.regular.specs.Refusals.{wordsFaults, either, Lowest, Chooses, HandsBack};
-ghost use Rattle.measures.specs.Ready.{Ready};
+ghost use Rattle.admission.specs.Admission.{Ready};
 use admission::lower_of;
 
 // Whether the plan of the second standard columns has less aberration than that of the first.

@@ -1,18 +1,16 @@
--- Each way through the admission of a plan ends in its answer: the lowest fault of the sizes and the plan, found in the order of the numbers.
-use Prim.Native.Nat.{ℕ, zero, suc, _-_, _^_, _≤_, _<_}
+-- Each way through the admission of a plan ends in its answer: the lowest fault of the sizes and the plan, or the standard columns.
+use Prim.Native.Nat.{ℕ, zero, suc, _-_, _≤_, _<_}
 use mathlib.Core.Path.{_≡_, refl, sym, subst, _∙_}
-use mathlib.Core.Logic.{_⊎_, inl, inr, by-cases}
+use mathlib.Core.Logic.{inl, inr, by-cases}
 use mathlib.Core.List.{List}
 use native.Mathlib.Omega.{arith}
 use lib.ListN.{length, getD, replicate}
-use Rattle.gf2.specs.Members.{In, Different}
 use Rattle.regular.specs.Sizes.{Size}
-use Rattle.regular.specs.Runs.{Runs, Table, runsOf, Agree}
-use Rattle.regular.specs.Words.{NoShort, Generated, Independent}
-use Rattle.regular.specs.Columns.{planOf, Below, Spans}
-use Rattle.regular.specs.Refusals.{Short, SizeFault, WordsFault, ColumnsFault, ListFault, RecordFault, TableFault, either, Lowest, columnsFaults}
-use Rattle.regular.specs.RefusalLaws.{lowest-none, lowest-at, lowest-same, lowest-first, lowest-then, size-most, words-least, columns-least, list-is, record-least, table-least}
-use Rattle.regular.specs.declared.Design.{Design}
+use Rattle.regular.specs.Runs.{Runs, Agree}
+use Rattle.regular.specs.Columns.{planOf, Spans}
+use Rattle.regular.specs.Refusals.{SizeFault, ColumnsFault, ListFault, either, Lowest, columnsFaults}
+use Rattle.regular.specs.RefusalLaws.{lowest-same, lowest-first, lowest-then, size-most}
+use Rattle.regular.specs.Accepted.{size-accepted}
 use Rattle.regular.specs.declared.Admitted.{Admitted}
 use Rattle.standard.specs.Form.{StandardFor, Plain}
 use Rattle.standard.specs.Runs.{run-cols}
@@ -20,31 +18,6 @@ use Rattle.standard.specs.Total.{total-cols}
 use Rattle.words.specs.Switches.{agree-trans, short-agree}
 use Rattle.admission.specs.Admission.{Admission, Columned}
 use native.Mathlib.Decide.{ℕ-discrete}
-
--- sizes
-pub size-1 : (n g : ℕ) → (n < 1) ⊎ (16 < n) → Lowest (SizeFault n g) 1
-size-1 n g h = lowest-at (SizeFault n g) 1 (omega arith) (SizeFault.factors h) least
-  where
-    least : (k : ℕ) → SizeFault n g k → 1 ≤ k
-    least k (SizeFault.factors p) = omega arith
-    least k (SizeFault.generators p) = omega arith
-
-pub size-2 : (n g : ℕ) → 1 ≤ n → n ≤ 16 → (n ≤ g) ⊎ (7 < n - g) → Lowest (SizeFault n g) 2
-size-2 n g some most h = lowest-at (SizeFault n g) 2 (omega arith) (SizeFault.generators h) least
-  where
-    least : (k : ℕ) → SizeFault n g k → 2 ≤ k
-    least k (SizeFault.factors (inl p)) = absurd (omega arith)
-    least k (SizeFault.factors (inr p)) = absurd (omega arith)
-    least k (SizeFault.generators p) = omega arith
-
-pub size-0 : (n g : ℕ) → Size n g → Lowest (SizeFault n g) 0
-size-0 n g z = lowest-none (SizeFault n g) never
-  where
-    never : (k : ℕ) → SizeFault n g k → ⊥
-    never k (SizeFault.factors (inl p)) = omega (arith, z .some)
-    never k (SizeFault.factors (inr p)) = omega (arith, z .most)
-    never k (SizeFault.generators (inl p)) = omega (arith, z .less)
-    never k (SizeFault.generators (inr p)) = omega (arith, z .few)
 
 -- a refusal
 pub refusal : (fault : ℕ → Type 0) (n g : ℕ) (s : Runs) (r : ℕ) → 0 < r → Lowest fault r → Admission fault n g s r (replicate 16 0)
@@ -73,7 +46,7 @@ plan-refusal plan n g s r h z l = refusal (either (SizeFault n g) plan) n g s r 
 pub accepted : (plan : ℕ → Type 0) (n g : ℕ) (s : Runs) (a : List ℕ) → Size n g → Lowest plan 0 → StandardFor n (n - g) s a → Plain n a → ((f : ℕ) → n ≤ f → getD a f 0 ≡ 0)
     → Admission (either (SizeFault n g) plan) n g s 0 a
 accepted plan n g s a z l st pl un = record {
-  lowest = lowest-then (SizeFault n g) plan 0 (size-0 n g z) l;
+  lowest = lowest-then (SizeFault n g) plan 0 (size-accepted n g z) l;
   refused = λ h. absurd (omega arith);
   size = λ _. z;
   standard = λ _. st;
@@ -81,171 +54,8 @@ accepted plan n g s a z l st pl un = record {
   unused = λ _. un;
 }
 
--- a word that is both short and not
-short-not : (n : ℕ) (s : Runs) → NoShort n 3 s → Short n 3 s → ⊥
-short-not n s h w = omega (arith, h (w .word) (w .is), w .few)
-
--- words
-module _ (n g : ℕ) (ws : List ℕ) where
-  pub words-4 : (length ws ≡ g → ⊥) → Lowest (WordsFault n g ws) 4
-  words-4 h = lowest-at (WordsFault n g ws) 4 (omega arith) (WordsFault.count h) (words-least n g ws)
-
-  pub words-5 : length ws ≡ g → (i : ℕ) → i < length ws → 2 ^ n ≤ getD ws i 0 → Lowest (WordsFault n g ws) 5
-  words-5 e i l h = lowest-at (WordsFault n g ws) 5 (omega arith) (WordsFault.past i l h) least
-    where
-      least : (k : ℕ) → WordsFault n g ws k → 5 ≤ k
-      least k (WordsFault.count p) = absurd (p e)
-      least k (WordsFault.past j p q) = omega arith
-      least k (WordsFault.dependent p) = omega arith
-      least k (WordsFault.short p) = omega arith
-
-  module _ (e : length ws ≡ g) (low : (i : ℕ) → i < length ws → getD ws i 0 < 2 ^ n) where
-    not-past : (i : ℕ) → i < length ws → 2 ^ n ≤ getD ws i 0 → ⊥
-    not-past i l h = omega (arith, low i l)
-
-    pub words-6 : (Independent g ws → ⊥) → Lowest (WordsFault n g ws) 6
-    words-6 h = lowest-at (WordsFault n g ws) 6 (omega arith) (WordsFault.dependent h) least
-      where
-        least : (k : ℕ) → WordsFault n g ws k → 6 ≤ k
-        least k (WordsFault.count p) = absurd (p e)
-        least k (WordsFault.past j p q) = absurd (not-past j p q)
-        least k (WordsFault.dependent p) = omega arith
-        least k (WordsFault.short p) = omega arith
-
-    pub words-7 : Independent g ws → Short n 3 (Generated n g ws) → Lowest (WordsFault n g ws) 7
-    words-7 ind h = lowest-at (WordsFault n g ws) 7 (omega arith) (WordsFault.short h) least
-      where
-        least : (k : ℕ) → WordsFault n g ws k → 7 ≤ k
-        least k (WordsFault.count p) = absurd (p e)
-        least k (WordsFault.past j p q) = absurd (not-past j p q)
-        least k (WordsFault.dependent p) = absurd (p ind)
-        least k (WordsFault.short p) = omega arith
-
-    pub words-0 : Independent g ws → NoShort n 3 (Generated n g ws) → Lowest (WordsFault n g ws) 0
-    words-0 ind long = lowest-none (WordsFault n g ws) never
-      where
-        never : (k : ℕ) → WordsFault n g ws k → ⊥
-        never k (WordsFault.count p) = p e
-        never k (WordsFault.past j p q) = not-past j p q
-        never k (WordsFault.dependent p) = p ind
-        never k (WordsFault.short p) = short-not n (Generated n g ws) long p
-
--- columns
-module _ (n m : ℕ) (c : List ℕ) where
-  pub columns-5 : (f : ℕ) → f < n → 2 ^ m ≤ getD c f 0 → Lowest (ColumnsFault n m c) 5
-  columns-5 f l h = lowest-at (ColumnsFault n m c) 5 (omega arith) (ColumnsFault.above f l h) (columns-least n m c)
-
-  module _ (below : Below n m c) where
-    pub columns-6 : (Spans n m c → ⊥) → Lowest (ColumnsFault n m c) 6
-    columns-6 h = lowest-at (ColumnsFault n m c) 6 (omega arith) (ColumnsFault.rank h) least
-      where
-        least : (k : ℕ) → ColumnsFault n m c k → 6 ≤ k
-        least k (ColumnsFault.above f l p) = absurd (omega (arith, below f l))
-        least k (ColumnsFault.rank p) = omega arith
-        least k (ColumnsFault.short p) = omega arith
-
-    pub columns-7 : Spans n m c → Short n 3 (planOf n m c) → Lowest (ColumnsFault n m c) 7
-    columns-7 sp h = lowest-at (ColumnsFault n m c) 7 (omega arith) (ColumnsFault.short h) least
-      where
-        least : (k : ℕ) → ColumnsFault n m c k → 7 ≤ k
-        least k (ColumnsFault.above f l p) = absurd (omega (arith, below f l))
-        least k (ColumnsFault.rank p) = absurd (p sp)
-        least k (ColumnsFault.short p) = omega arith
-
-    pub columns-0 : Spans n m c → NoShort n 3 (planOf n m c) → Lowest (ColumnsFault n m c) 0
-    columns-0 sp long = lowest-none (ColumnsFault n m c) never
-      where
-        never : (k : ℕ) → ColumnsFault n m c k → ⊥
-        never k (ColumnsFault.above f l p) = omega (arith, below f l)
-        never k (ColumnsFault.rank p) = p sp
-        never k (ColumnsFault.short p) = short-not n (planOf n m c) long p
-
--- a run table
-module _ (n m : ℕ) (t : List ℕ) where
-  pub table-4 : (length t ≡ 2 ^ m → ⊥) → Lowest (TableFault n m t) 4
-  table-4 h = lowest-at (TableFault n m t) 4 (omega arith) (TableFault.count h) (table-least n m t)
-
-  pub table-5 : length t ≡ 2 ^ m → (x : ℕ) → In x t → 2 ^ n ≤ x → Lowest (TableFault n m t) 5
-  table-5 e x i h = lowest-at (TableFault n m t) 5 (omega arith) (TableFault.past x i h) least
-    where
-      least : (k : ℕ) → TableFault n m t k → 5 ≤ k
-      least k (TableFault.count p) = absurd (p e)
-      least k (TableFault.past y j p) = omega arith
-      least k (TableFault.repeated p) = omega arith
-      least k (TableFault.irregular p) = omega arith
-      least k (TableFault.short p) = omega arith
-
-  module _ (e : length t ≡ 2 ^ m) (low : (x : ℕ) → In x t → x < 2 ^ n) where
-    six : TableFault n m t 6 → Lowest (TableFault n m t) 6
-    six h = lowest-at (TableFault n m t) 6 (omega arith) h least
-      where
-        least : (k : ℕ) → TableFault n m t k → 6 ≤ k
-        least k (TableFault.count p) = absurd (p e)
-        least k (TableFault.past y j p) = absurd (omega (arith, low y j))
-        least k (TableFault.repeated p) = omega arith
-        least k (TableFault.irregular p) = omega arith
-        least k (TableFault.short p) = omega arith
-
-    -- no table: its runs repeat, or they are not regular
-    pub table-6 : Different t ⊎ (Different t → ⊥) → (Table n m t → ⊥) → Lowest (TableFault n m t) 6
-    table-6 (inl d) h = six (TableFault.irregular (λ r. h (record { count = e; within = low; different = d; regular = r })))
-    table-6 (inr d) h = six (TableFault.repeated d)
-
-    pub table-7 : Table n m t → Short n 3 (runsOf t) → Lowest (TableFault n m t) 7
-    table-7 tab h = lowest-at (TableFault n m t) 7 (omega arith) (TableFault.short h) least
-      where
-        least : (k : ℕ) → TableFault n m t k → 7 ≤ k
-        least k (TableFault.count p) = absurd (p e)
-        least k (TableFault.past y j p) = absurd (omega (arith, low y j))
-        least k (TableFault.repeated p) = absurd (p (tab .different))
-        least k (TableFault.irregular p) = absurd (p (tab .regular))
-        least k (TableFault.short p) = omega arith
-
-    pub table-0 : Table n m t → NoShort n 3 (runsOf t) → Lowest (TableFault n m t) 0
-    table-0 tab long = lowest-none (TableFault n m t) never
-      where
-        never : (k : ℕ) → TableFault n m t k → ⊥
-        never k (TableFault.count p) = p e
-        never k (TableFault.past y j p) = omega (arith, low y j)
-        never k (TableFault.repeated p) = p (tab .different)
-        never k (TableFault.irregular p) = p (tab .regular)
-        never k (TableFault.short p) = short-not n (runsOf t) long p
-
--- a design record
-module _ (n m : ℕ) (d : Design) where
-  pub record-4 : (d .factors ≡ n → ⊥) ⊎ (d .basics ≡ m → ⊥) → Lowest (RecordFault n m d) 4
-  record-4 (inl h) = lowest-at (RecordFault n m d) 4 (omega arith) (RecordFault.factors h) (record-least n m d)
-  record-4 (inr h) = lowest-at (RecordFault n m d) 4 (omega arith) (RecordFault.basics h) (record-least n m d)
-
-  module _ (ef : d .factors ≡ n) (eb : d .basics ≡ m) where
-    pub record-5 : (f : ℕ) → n ≤ f → f < 16 → (getD (d .columns) f 0 ≡ 0 → ⊥) → Lowest (RecordFault n m d) 5
-    record-5 f l u h = lowest-at (RecordFault n m d) 5 (omega arith) (RecordFault.used f l u h) least
-      where
-        least : (k : ℕ) → RecordFault n m d k → 5 ≤ k
-        least k (RecordFault.factors p) = absurd (p ef)
-        least k (RecordFault.basics p) = absurd (p eb)
-        least k (RecordFault.used g p q r) = omega arith
-
-    pub record-0 : ((f : ℕ) → n ≤ f → f < 16 → getD (d .columns) f 0 ≡ 0) → Lowest (RecordFault n m d) 0
-    record-0 un = lowest-none (RecordFault n m d) never
-      where
-        never : (k : ℕ) → RecordFault n m d k → ⊥
-        never k (RecordFault.factors p) = p ef
-        never k (RecordFault.basics p) = p eb
-        never k (RecordFault.used f p q r) = r (un f p q)
-
--- a list of columns
-pub list-4 : (n : ℕ) (c : List ℕ) → (length c ≡ n → ⊥) → Lowest (ListFault n c) 4
-list-4 n c h = lowest-at (ListFault n c) 4 (omega arith) (ListFault.count h) (λ k f. omega (arith, list-is n c k f))
-
-pub list-0 : (n : ℕ) (c : List ℕ) → length c ≡ n → Lowest (ListFault n c) 0
-list-0 n c e = lowest-none (ListFault n c) never
-  where
-    never : (k : ℕ) → ListFault n c k → ⊥
-    never k (ListFault.count p) = p e
-
 -- columns of sizes in bounds
-pub array-refused : (n m : ℕ) (c : List ℕ) (k : ℕ) → 0 < k → Lowest (ColumnsFault n m c) k → Columned n m c k (replicate 16 0)
+array-refused : (n m : ℕ) (c : List ℕ) (k : ℕ) → 0 < k → Lowest (ColumnsFault n m c) k → Columned n m c k (replicate 16 0)
 array-refused n m c k h l = record {
   lowest = l;
   refused = λ _. refl;
@@ -273,7 +83,7 @@ columns-fault-same n m c d same k (ColumnsFault.short h) = ColumnsFault.short (s
 pub array-admission : (other : ℕ → Type 0) (n g : ℕ) (c d : List ℕ) (number : ℕ) (a : List ℕ) → Size n g → Lowest other 0 → ((f : ℕ) → f < n → getD c f 0 ≡ getD d f 0)
     → Columned n (n - g) c number a → Admission (either (SizeFault n g) (either other (ColumnsFault n (n - g) d))) n g (planOf n (n - g) d) number a
 array-admission other n g c d number a z l same k = record {
-  lowest = lowest-then (SizeFault n g) (either other (ColumnsFault n (n - g) d)) number (size-0 n g z)
+  lowest = lowest-then (SizeFault n g) (either other (ColumnsFault n (n - g) d)) number (size-accepted n g z)
       (lowest-then other (ColumnsFault n (n - g) d) number l
       (lowest-same (ColumnsFault n (n - g) c) (ColumnsFault n (n - g) d) number
       (columns-fault-same n (n - g) c d same) (columns-fault-same n (n - g) d c (λ f h. sym (same f h))) (k .lowest)));
@@ -292,7 +102,7 @@ answered fault n g s k r e a = subst (λ (v : Admitted). Admission fault n g s (
 -- .. where the plan is refused
 pub plan-answered : (plan : ℕ → Type 0) (n g : ℕ) (s : Runs) (k : ℕ) → 0 < k → Size n g → Lowest plan k → (r : Admitted) → r ≡ record { number = k; columns = replicate 16 0 }
     → Admission (either (SizeFault n g) plan) n g s (r .number) (r .columns)
-plan-answered plan n g s k h z l r e = answered (either (SizeFault n g) plan) n g s k r e (plan-refusal plan n g s k h (size-0 n g z) l)
+plan-answered plan n g s k h z l r e = answered (either (SizeFault n g) plan) n g s k r e (plan-refusal plan n g s k h (size-accepted n g z) l)
 
 pub array-answered : (n m : ℕ) (c : List ℕ) (k : ℕ) (r : Admitted) → r ≡ record { number = k; columns = replicate 16 0 } → 0 < k → Lowest (ColumnsFault n m c) k → Columned n m c (r .number) (r .columns)
 array-answered n m c k r e h l = subst (λ (v : Admitted). Columned n m c (v .number) (v .columns)) (sym e) (array-refused n m c k h l)

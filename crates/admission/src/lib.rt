@@ -2,13 +2,13 @@
 // calls on plans, which all begin so.
 ghost use mathlib.Core.Path.{_≡_};
 ghost use mathlib.Core.Bool.{true, false};
-ghost use Prim.Native.Nat.{ℕ, _-_, _^_, _≤_, _<_};
+ghost use Prim.Native.Nat.{ℕ, _-_, _≤_, _<_};
 ghost use lib.ListN.{length, getD, replicate};
-ghost use Rattle.regular.specs.Sizes.{Size};
+ghost use Rattle.regular.specs.Sizes.{Size, Sized};
 ghost use Rattle.regular.specs.Runs.{runsOf, switched};
 ghost use Rattle.regular.specs.Words.{Generated};
 ghost use Rattle.regular.specs.Columns.{planOf};
-ghost use Rattle.regular.specs.Refusals.{SizeFault, wordsFaults, runsFaults, designFaults, columnsFaults, Lowest};
+ghost use Rattle.regular.specs.Refusals.{SizeFault, sizeFaults, wordsFaults, runsFaults, designFaults, columnsFaults, Lowest};
 ghost use Rattle.regular.specs.RefusalLaws.{Lower};
 ghost use Rattle.admission.specs.Admission.{Admission, Columned};
 use bits::power;
@@ -16,8 +16,8 @@ use bits::wide_byte;
 use regular::Admitted;
 use regular::Design;
 
-// 1 or 2 if the sizes are out of bounds, else 0. Public for lists of plans, which have sizes even when they are empty.
-pub fn size_number(n: usize, g: usize) -> u8
+// 1 or 2 if the sizes are out of bounds, else 0.
+fn size_number(n: usize, g: usize) -> u8
     ensures { λ r. ⌜ Lowest (SizeFault n g) r × (r ≡ 0 → Size n g) ⌝ }
 {
     if n < 1 {
@@ -31,6 +31,23 @@ pub fn size_number(n: usize, g: usize) -> u8
     }
     if 7 < n - g {
         return 2;
+    }
+    0
+}
+
+// 1 to 3 if the sizes or the wanted resolution are out of bounds, else 0. Public for the calls with a wanted resolution.
+pub fn bounds_number(n: usize, g: usize, r: usize) -> u8
+    ensures { λ k. ⌜ Lowest (sizeFaults n g r) k × (k ≡ 0 → Sized n g r) × (k ≤ 3) ⌝ }
+{
+    let number = size_number(n, g);
+    if number != 0 {
+        return number;
+    }
+    if r < 3 {
+        return 3;
+    }
+    if 16 < r {
+        return 3;
     }
     0
 }

@@ -1,7 +1,6 @@
 -- Records of document 01's catalogue 5 1 3, by computation.
 use mathlib.Core.Path.{_≡_, refl}
-use mathlib.Core.List.{List, [], _∷_}
-use Prim.Native.Nat.{ℕ}
+use mathlib.Core.List.{[], _∷_}
 use Rattle.regular.specs.Book.{each, header, columnsRecord, patternRecord, bookLength}
 
 header-5-1-3 : header 5 1 3 3 ≡ 1 ∷ 5 ∷ 1 ∷ 3 ∷ 3 ∷ 0 ∷ []

@@ -15,23 +15,21 @@ use Rattle.regular.specs.Refusals.{Lowest, columnsFaults}
 use Rattle.regular.specs.RefusalLaws.{lowest-unique}
 use Rattle.regular.specs.PlanLists.{planAt, HasPlan, wantedPlansFaults}
 use Rattle.words.specs.Switches.{agree-sym, pattern-agree}
-use Rattle.admission.specs.Admission.{Admission}
-use Rattle.measures.specs.Ready.{Ready}
-use Rattle.measures.specs.Measured.{ready}
+use Rattle.admission.specs.Admission.{Admission, Ready, ready}
 use Rattle.plan_lists.specs.Accepted.{AcceptedPlans, plans-accepted}
 use Rattle.regular.specs.Book.{bookLength, headerLength}
 use Rattle.book.specs.Writing.{entryLength, PutEntry, Written, PlansWritten}
 use Rattle.book.specs.WritingLaws.{columns-same, written-none, written-more, written-size, entry-room}
 
 -- a plan without faults is admitted
-pub admitted-none : {fault : ℕ → Type 0} {n g number : ℕ} {s : Runs} {a : List ℕ} → Lowest fault 0 → Admission fault n g s number a → number ≡ 0
+admitted-none : {fault : ℕ → Type 0} {n g number : ℕ} {s : Runs} {a : List ℕ} → Lowest fault 0 → Admission fault n g s number a → number ≡ 0
 admitted-none {fault} {n} {g} {number} l ad = lowest-unique fault number 0 (ad .lowest) l
 
 pub admitted-ready : {fault : ℕ → Type 0} {n g number : ℕ} {s : Runs} {a : List ℕ} → Lowest fault 0 → Admission fault n g s number a → Ready n g a
 admitted-ready l ad = ready ad (admitted-none l ad)
 
 -- the pattern of its standard columns is its own
-pub admitted-pattern : {fault : ℕ → Type 0} {n g number : ℕ} {s : Runs} {a : List ℕ} → Lowest fault 0 → Admission fault n g s number a
+admitted-pattern : {fault : ℕ → Type 0} {n g number : ℕ} {s : Runs} {a : List ℕ} → Lowest fault 0 → Admission fault n g s number a
     → (p : List ℕ) → Pattern n (planOf n (n - g) a) p → Pattern n s p
 admitted-pattern {fault} {n} {g} {number} {s} {a} l ad p = pattern-agree n (planOf n (n - g) a) s (agree-sym s (planOf n (n - g) a) (ad .standard (admitted-none l ad) .plan)) p
 

@@ -46,10 +46,10 @@ columns-more c at f v w h e =
 abbrev countAt : List ℕ → ℕ → List ℕ
 countAt p i = lowFirst (ofLength p (3 + i))
 
-pub counts-none : (p : List ℕ) (at : ℕ) (v : List ℕ) → v ≡ over at (each (λ i. lowFirst (ofLength p (3 + i))) (2 - 2)) v
+counts-none : (p : List ℕ) (at : ℕ) (v : List ℕ) → v ≡ over at (each (λ i. lowFirst (ofLength p (3 + i))) (2 - 2)) v
 counts-none p at v = sym (ap (λ (l : List ℕ). over at l v) (each-none (countAt p)) ∙ over-none at v)
 
-pub counts-more : (p : List ℕ) (at to i : ℕ) (v w : List ℕ) → 2 ≤ i → to ≡ at + 2 * (i - 2) → w ≡ over at (each (λ i. lowFirst (ofLength p (3 + i))) (i - 2)) v
+counts-more : (p : List ℕ) (at to i : ℕ) (v w : List ℕ) → 2 ≤ i → to ≡ at + 2 * (i - 2) → w ≡ over at (each (λ i. lowFirst (ofLength p (3 + i))) (i - 2)) v
     → over to (lowFirst (getD p i 0)) w ≡ over at (each (λ i. lowFirst (ofLength p (3 + i))) (i + 1 - 2)) v
 counts-more p at to i v w h t e =
     let k = i - 2 in

@@ -1,5 +1,5 @@
 -- What the parts of the writer promise: a refusal, a begun book, an entry more, the entries so far. Definitions only.
-use Prim.Native.Nat.{ℕ, _+_, _*_, _-_, _≤_, _<_}
+use Prim.Native.Nat.{ℕ, _+_, _*_, _-_, _<_}
 use mathlib.Core.Path.{_≡_}
 use mathlib.Core.List.{List, _++_}
 use lib.ListN.{length}
@@ -8,6 +8,7 @@ use Rattle.regular.specs.Columns.{planOf}
 use Rattle.regular.specs.Pattern.{Pattern}
 use Rattle.regular.specs.Refusals.{Lowest}
 use Rattle.regular.specs.RefusalLaws.{Lower}
+use Rattle.lent.specs.Lending.{Lending}
 use Rattle.regular.specs.PlanLists.{planAt}
 use Rattle.regular.specs.declared.Design.{Design}
 use Rattle.regular.specs.Book.{each, columnsRecord, patternRecord, columnsLength, patternLength, header, headerLength, bookLength, CountFault}
@@ -33,9 +34,7 @@ pub record Refusal (n count number places k : ℕ) : Type 0 where
   pub low : ℕ
   pub counted : Lowest (CountFault count) many
   pub lower : Lower number many low
-  pub refused : 0 < low → k ≡ low
-  pub short : low ≡ 0 → places < bookLength n count → k ≡ 8
-  pub none : low ≡ 0 → bookLength n count ≤ places → k ≡ 0
+  pub lending : Lending low (bookLength n count) places k
 
 -- refused, and nothing written; or the header stands
 pub record Begins (n g r count number : ℕ) (v w : List ℕ) (k used : ℕ) : Type 0 where

@@ -2,7 +2,7 @@
 -- is one list of bytes (`book-unique`).
 use Prim.Native.Nat.{ℕ, zero, suc, _+_, _*_, _-_, _≤_, _<_}
 use mathlib.Core.Path.{_≡_, refl, sym, ap, ap₂, subst, _∙_}
-use mathlib.Core.Logic.{_⊎_, ⊎-elim, by-cases}
+use mathlib.Core.Logic.{⊎-elim, by-cases}
 use mathlib.Core.Bool.{Bool, true, false}
 use mathlib.Core.List.{List, [], _∷_, _++_}
 use native.Mathlib.Decide.{ℕ-discrete, decLt}
@@ -15,11 +15,12 @@ use lib.ListN.{length, getD, take, drop, set, length-append}
 use Rattle.regular.specs.Runs.{Runs}
 use Rattle.regular.specs.Columns.{planOf}
 use Rattle.regular.specs.Pattern.{Pattern, ofLength}
-use Rattle.regular.specs.Refusals.{LentFault, either, Lowest}
-use Rattle.regular.specs.RefusalLaws.{lowest-none, lowest-at, lowest-first, lowest-then, lowest-lower, lent-is, lower-none}
+use Rattle.regular.specs.Refusals.{either, Lowest}
+use Rattle.regular.specs.RefusalLaws.{lowest-none, lowest-at, lowest-lower, lower-none}
 use Rattle.counts.specs.Patterns.{pattern-unique}
 use Rattle.regular.specs.Book.{lowFirst, each, header, headerLength, columnsRecord, patternRecord, bookLength, Book, CountFault, bookFaults, Writes}
 use Rattle.book.specs.Over.{over, over-none, over-one, over-then, over-length, over-begins, over-rest}
+use Rattle.lent.specs.Lending.{lending-lowest, lending-accepted}
 use Rattle.book.specs.Writing.{entryRecords, entryLength, PutEntry, Refusal, Begins, Written}
 
 -- parts one after another
@@ -36,7 +37,7 @@ unfolding each
 each-same F G zero h = refl
 each-same F G (suc k) h = ap₂ _++_ (each-same F G k (λ j l. h j (omega arith))) (h k (omega arith))
 
-pub each-length : (F : ℕ → List ℕ) (e : ℕ) → ((j : ℕ) → length (F j) ≡ e) → (k : ℕ) → length (each F k) ≡ k * e
+each-length : (F : ℕ → List ℕ) (e : ℕ) → ((j : ℕ) → length (F j) ≡ e) → (k : ℕ) → length (each F k) ≡ k * e
 unfolding each
 each-length F e h zero = omega arith
 each-length F e h (suc k) = length-append (each F k) (F k) ∙ omega (arith, each-length F e h k, h k, suc-mul k e)
@@ -167,25 +168,9 @@ module _ (plans : ℕ → Type 0) (n count number k : ℕ) (out : List ℕ) (mos
   both : Lowest (either plans (CountFault count)) (f .low)
   both = lowest-lower plans (CountFault count) number (f .many) (f .low) own (f .counted) (f .lower)
 
-  low-most : 0 < f .low → f .low ≤ 7
-  low-most h = ⊎-elim (λ p. most (f .low) p) (λ c. omega (arith, count-is count (f .low) c)) (both .applies h)
-
-  lent-never : bookLength n count ≤ length out → (j : ℕ) → LentFault (bookLength n count) out j → ⊥
-  lent-never h j (LentFault.few l) = omega arith
-
-  pub refusal-lowest : Lowest (bookFaults plans n count out) k
+  refusal-lowest : Lowest (bookFaults plans n count out) k
   refusal-lowest =
-      by-cases (decLt 0 (f .low))
-      (λ h. subst (Lowest (bookFaults plans n count out)) (sym (f .refused h))
-      (lowest-first (either plans (CountFault count)) (LentFault (bookLength n count) out) (f .low) h both (λ j l. omega (arith, lent-is (bookLength n count) out j l, low-most h))))
-      (λ h. let e : f .low ≡ 0 = omega arith in
-      let zero = subst (Lowest (either plans (CountFault count))) e both in
-      by-cases (decLt (length out) (bookLength n count))
-      (λ l. subst (Lowest (bookFaults plans n count out)) (sym (f .short e l))
-      (lowest-then (either plans (CountFault count)) (LentFault (bookLength n count) out) 8 zero
-      (lowest-at (LentFault (bookLength n count) out) 8 (omega arith) (LentFault.few l) (λ j g. omega (arith, lent-is (bookLength n count) out j g)))))
-      (λ l. subst (Lowest (bookFaults plans n count out)) (sym (f .none e (omega arith)))
-      (lowest-then (either plans (CountFault count)) (LentFault (bookLength n count) out) 0 zero (lowest-none (LentFault (bookLength n count) out) (lent-never (omega arith))))))
+      lending-lowest (either plans (CountFault count)) (f .low) (bookLength n count) out k both (λ j e. ⊎-elim (λ p. omega (arith, most j p)) (λ c. omega (arith, count-is count j c)) e) (f .lending)
 
 -- where nothing is refused: the plans have no fault, the count fits, there is room
 pub record Accepted (n count number places : ℕ) : Type 0 where
@@ -195,13 +180,9 @@ pub record Accepted (n count number places : ℕ) : Type 0 where
 
 pub refusal-none : (n count number places k : ℕ) → k ≡ 0 → Refusal n count number places k → Accepted n count number places
 refusal-none n count number places k e f =
-    let low : f .low ≡ 0 = by-cases (decLt 0 (f .low)) (λ h. absurd (omega (arith, f .refused h))) (λ h. omega arith) in
-    let z = lower-none number (f .many) (f .low) (f .lower) low in
-    record {
-      plans = z .0;
-      few = count-few count (f .many) (z .1) (f .counted);
-      room = by-cases (decLt places (bookLength n count)) (λ h. absurd (omega (arith, f .short low h))) (λ h. omega arith);
-    }
+    let l = lending-accepted (f .low) (bookLength n count) places k (f .lending) e in
+    let z = lower-none number (f .many) (f .low) (f .lower) (l .0) in
+    record { plans = z .0; few = count-few count (f .many) (z .1) (f .counted); room = l .1 }
 
 -- after the header the room is as before
 pub begun-room : {n g r count number k used : ℕ} {v w : List ℕ} → Begins n g r count number v w k used → k ≡ 0 → bookLength n count ≤ length w

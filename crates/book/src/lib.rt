@@ -6,9 +6,9 @@ ghost use lib.ListN.{length, getD};
 ghost use Rattle.regular.specs.Columns.{planOf};
 ghost use Rattle.regular.specs.Pattern.{ofLength};
 ghost use Rattle.regular.specs.Refusals.{Lowest, designFaults};
-ghost use Rattle.measures.specs.Ready.{Ready};
 ghost use Rattle.plan_lists.specs.Accepted.{AcceptedPlans};
 ghost use Rattle.regular.specs.Book.{lowFirst, each, columnsRecord, patternRecord, header, bookLength, CountFault, WritesPlans, WritesDesigns};
+ghost use Rattle.admission.specs.Admission.{Ready};
 ghost use Rattle.book.specs.Over.{over};
 ghost use Rattle.book.specs.Writing.{entryLength, PutEntry, Refusal, Begins, Adds, PlansWritten};
 use admission::lower_of;
@@ -133,10 +133,7 @@ fn refusal(n: usize, count: usize, number: u8, places: usize) -> u8
     if low != 0 {
         return low;
     }
-    if places < book_length(n, count) {
-        return 8;
-    }
-    0
+    lent::lending(low, book_length(n, count), places)
 }
 
 // The header, if nothing is refused; the answer's count is the place after it.

@@ -27,7 +27,7 @@ use Rattle.smallest_laws.specs.Growth.{plan-equal}
 
 module _ (n m r count : ℕ) (entry : ℕ → List ℕ) (k : Catalogue n m r count entry) where
   -- entries with equal columns stand at one place
-  pub entry-once : (i j : ℕ) → i < count → j < count → Equal n (entry i) (entry j) → i ≡ j
+  entry-once : (i j : ℕ) → i < count → j < count → Equal n (entry i) (entry j) → i ≡ j
   entry-once i j hi hj e =
       by-cases (decLt i j)
       (λ l. absurd (before-irrefl n (entry i) (entry j) e (k .order i j l hj)))
@@ -57,7 +57,7 @@ module _ (n m r count : ℕ) (entry : ℕ → List ℕ) (k : Catalogue n m r cou
       }
 
 -- the plan of columns as a run table
-pub plan-runs : (n m : ℕ) (c : List ℕ) → Agree (planOf n m c) (runsOf (runTable n m c))
+plan-runs : (n m : ℕ) (c : List ℕ) → Agree (planOf n m c) (runsOf (runTable n m c))
 plan-runs n m c = record {
   into = λ x p. subst (λ (y : ℕ). In y (runTable n m c)) (sym (p .1 .1)) (in-to (runOf c n) (2 ^ m) (p .0) (p .1 .0));
   onto = λ x i. of-to (runOf c n) (2 ^ m) x i;
@@ -112,7 +112,7 @@ module _ (n m r : ℕ) (a b : ℕ) (c d : ℕ → List ℕ) (k : Catalogue n m r
       (λ ne. absurd (before-irrefl n (d (p .0)) (d (p .0)) (equal-refl n (d (p .0)))
       (before-trans n (d (p .0)) (d (o .0)) (d (p .0)) w (l .order (o .0) (p .0) (omega arith) (p .1 .0))))))
 
-  pub fewer-entries : a ≤ b
+  fewer-entries : a ≤ b
   fewer-entries = go a refl
     where
       go : (x : ℕ) → x ≡ a → x ≤ b

@@ -23,7 +23,7 @@ use borrow.Author.Tests.{eqb-true, eq-eqb, leb-true, le-leb, ltb-true, lt-ltb, n
 use Rattle.gf2.specs.Truth.{clash, told, and-both, both-and, false-not}
 
 -- the test for short words
-pub not-short : (r k : ℕ) (c : List ℕ) → short r k c ≡ false → (w : ℕ) → w < 2 ^ k → total c k w ≡ getD c k 0 → r ≤ suc (letters w)
+not-short : (r k : ℕ) (c : List ℕ) → short r k c ≡ false → (w : ℕ) → w < 2 ^ k → total c k w ≡ getD c k 0 → r ≤ suc (letters w)
 unfolding short
 not-short r k c e w h z =
     by-cases (decLt (suc (letters w)) r)
@@ -31,7 +31,7 @@ not-short r k c e w h z =
     (any-none (λ v. eqb (total c k v) (getD c k 0) && ltb (suc (letters v)) r) (2 ^ k) w e h)))
     (λ l. omega arith)
 
-pub long-short : (r k : ℕ) (c : List ℕ) → ((w : ℕ) → w < 2 ^ k → total c k w ≡ getD c k 0 → r ≤ suc (letters w)) → short r k c ≡ false
+long-short : (r k : ℕ) (c : List ℕ) → ((w : ℕ) → w < 2 ^ k → total c k w ≡ getD c k 0 → r ≤ suc (letters w)) → short r k c ≡ false
 unfolding short
 long-short r k c h = none-any (λ v. eqb (total c k v) (getD c k 0) && ltb (suc (letters v)) r) (2 ^ k)
     (λ w l e. let b = and-both (eqb (total c k w) (getD c k 0)) (ltb (suc (letters w)) r) e in
@@ -39,7 +39,7 @@ long-short r k c h = none-any (λ v. eqb (total c k v) (getD c k 0) && ltb (suc 
 
 -- the test for one more column, after an entry, above its columns
 module _ (r k : ℕ) (c : List ℕ) (e : Entry k (unitsBefore c k) r c) (some : 0 < getD c k 0) (up : (f : ℕ) → f < k → getD c f 0 < getD c k 0) where
-  pub fits-entry : fits r k c ≡ true → Entry (suc k) (unitsBefore c (suc k)) r c
+  fits-entry : fits r k c ≡ true → Entry (suc k) (unitsBefore c (suc k)) r c
   unfolding fits
   fits-entry h =
       let u = unitsBefore c (suc k) in
@@ -52,7 +52,7 @@ module _ (r k : ℕ) (c : List ℕ) (e : Entry k (unitsBefore c k) r c) (some : 
         long = next-long k (unitsBefore c k) u r c (e .smallest .columns .below) (rise .below) (e .long) (not-short r k c (not-true (short r k c) (b .0)));
       }
 
-  pub entry-fits : Entry (suc k) (unitsBefore c (suc k)) r c → fits r k c ≡ true
+  entry-fits : Entry (suc k) (unitsBefore c (suc k)) r c → fits r k c ≡ true
   unfolding fits
   entry-fits h =
       let u = unitsBefore c (suc k) in
@@ -84,12 +84,12 @@ among-either c [] m i = inr i
 among-either c (d ∷ l) m (inl e) = inl (inl e)
 among-either c (d ∷ l) m (inr i) = ⊎-elim (λ a. inl (inr a)) (λ b. inr b) (among-either c l m i)
 
-pub at-among : (l : List (List ℕ)) (i : ℕ) → i < length l → Among (getD l i []) l
+at-among : (l : List (List ℕ)) (i : ℕ) → i < length l → Among (getD l i []) l
 at-among [] i h = absurd (omega arith)
 at-among (c ∷ l) zero h = inl refl
 at-among (c ∷ l) (suc i) h = inr (at-among l i (omega arith))
 
-pub among-at : (l : List (List ℕ)) (c : List ℕ) → Among c l → (i : ℕ) × ((i < length l) × (getD l i [] ≡ c))
+among-at : (l : List (List ℕ)) (c : List ℕ) → Among c l → (i : ℕ) × ((i < length l) × (getD l i [] ≡ c))
 among-at [] c m = absurd m
 among-at (d ∷ l) c (inl e) = (0, (omega arith, sym e))
 among-at (d ∷ l) c (inr m) = let r = among-at l c m in (suc (r .0), (omega (arith, r .1 .0), r .1 .1))

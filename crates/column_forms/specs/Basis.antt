@@ -22,7 +22,7 @@ use Rattle.standard.specs.Runs.{run-lt, total-lt, odd-total}
 use Rattle.standard.specs.Total.{total-cols, total-none, total-next, total-more, InSpan, independent-once}
 
 -- a one-to-one map of the numbers below k to numbers below k reaches each of them
-pub onto-self : (F : ℕ → ℕ) (k : ℕ) → ((i : ℕ) → i < k → F i < k) → ((i j : ℕ) → i < k → j < k → F i ≡ F j → i ≡ j)
+onto-self : (F : ℕ → ℕ) (k : ℕ) → ((i : ℕ) → i < k → F i < k) → ((i j : ℕ) → i < k → j < k → F i ≡ F j → i ≡ j)
     → (v : ℕ) → v < k → (i : ℕ) × ((i < k) × (v ≡ F i))
 onto-self F k lt inj v h =
     of-to F k v

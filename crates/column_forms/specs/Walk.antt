@@ -129,7 +129,7 @@ module _ (n m : ℕ) (c : List ℕ) (f half : ℕ) (sums places a : List ℕ) (w
     wider-below : Below (suc (w .rank)) m wider
     wider-below i h = let s = wider-reached i h in omega (arith, s .1 .1, total-lt c n m (s .0) below)
 
-    pub wider-most : w .rank < m
+    wider-most : w .rank < m
     wider-most = independent-few (suc (w .rank)) m wider wider-independent wider-below
 
     -- there is room for twice as many sums

@@ -47,7 +47,7 @@ count-or P Q a b h c d =
     (count-list Q b (c .members) (c .different) (λ x m q. h x (c .each x m) q) d))
 
 -- the numbers below k, and those from 1 to k
-pub count-below : (k : ℕ) → Count (λ x. x < k) k
+count-below : (k : ℕ) → Count (λ x. x < k) k
 count-below k = record { members = upto k; different = upto-different k; each = upto-lt k; all = upto-in k; number = upto-length k }
 
 pub count-from-one : (k : ℕ) → Count (λ x. (0 < x) × (x < suc k)) k

@@ -28,11 +28,11 @@ module _ (n : ℕ) (s : Runs) (p : List ℕ) (pat : Pattern n s p) where
       count-zero (λ v. Word n s v × (letters v ≡ letters w)) (ofLength p (letters w)) e (pat .counts (letters w) (word-some n s w h) (word-most n s w h)) w (h, refl)
 
   -- no length has a count
-  pub resolution-none : ((l : ℕ) → 1 ≤ l → l ≤ n → ofLength p l ≡ 0) → Resolution n s 0
+  resolution-none : ((l : ℕ) → 1 ≤ l → l ≤ n → ofLength p l ≡ 0) → Resolution n s 0
   resolution-none none = Resolution.full (λ w h. word-counted w h (none (letters w) (word-some n s w h) (word-most n s w h)))
 
   -- l is the first that has
-  pub resolution-at : (l : ℕ) → 1 ≤ l → l ≤ n → 0 < ofLength p l → ((k : ℕ) → 1 ≤ k → k < l → ofLength p k ≡ 0) → Resolution n s l
+  resolution-at : (l : ℕ) → 1 ≤ l → l ≤ n → 0 < ofLength p l → ((k : ℕ) → 1 ≤ k → k < l → ofLength p k ≡ 0) → Resolution n s l
   resolution-at l h k some before =
       let r = count-some (λ w. Word n s w × (letters w ≡ l)) (ofLength p l) some (pat .counts l h k) in
       let w = r .0 in
@@ -64,7 +64,7 @@ pub record FirstLength (n : ℕ) (p : List ℕ) (r : ℕ) : Type 0 where
   pub before : (k : ℕ) → 1 ≤ k → k ≤ n → (k < r) ⊎ (r ≡ 0) → ofLength p k ≡ 0
   pub some : 0 < r → 0 < ofLength p r
 
-pub first-is : (n : ℕ) (p : List ℕ) → FirstLength n p (firstLength n p)
+first-is : (n : ℕ) (p : List ℕ) → FirstLength n p (firstLength n p)
 first-is zero p = rw first-start (record { within = omega arith; before = λ k a b c. absurd (omega arith); some = λ h. absurd (omega arith) })
 first-is (suc n) p =
     let f = first-is n p in

@@ -48,7 +48,7 @@ tally-none v zero l h = tally-start v l
 tally-none v (suc k) l h = tally-miss v k l (h k (omega arith)) ∙ tally-none v k l (λ i p. h i (omega arith))
 
 -- the tally counts
-pub tally-count : (v : ℕ → ℕ) (k l : ℕ) → Count (λ i. (i < k) × (v i ≡ l)) (tally v k l)
+tally-count : (v : ℕ → ℕ) (k l : ℕ) → Count (λ i. (i < k) × (v i ≡ l)) (tally v k l)
 tally-count v zero l =
     subst (Count (λ i. (i < 0) × (v i ≡ l))) (sym (tally-start v l)) (count-none (λ i. (i < 0) × (v i ≡ l)) (λ i p. omega (arith, p .0)))
 tally-count v (suc k) l =

@@ -19,7 +19,7 @@ use Rattle.counts.specs.Models.{products, PatternModel}
 use Rattle.counts.specs.Tally.{tally-image}
 
 -- the empty set has no letters, any other set has one
-pub letters-none : letters 0 ≡ 0
+letters-none : letters 0 ≡ 0
 unfolding ones
 letters-none = refl
 

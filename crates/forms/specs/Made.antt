@@ -8,6 +8,7 @@ use Rattle.regular.specs.Runs.{Runs}
 use Rattle.regular.specs.Words.{Reduced}
 use Rattle.regular.specs.Columns.{StandardColumns, RunTable, RunsOfPlan, Listed}
 use Rattle.regular.specs.Designs.{Holds, blank}
+use Rattle.regular.specs.Smallest.{Equal}
 use Rattle.regular.specs.Refusals.{Gives, LentFault, either, Fills}
 use Rattle.regular.specs.declared.Design.{Design}
 use Rattle.words.specs.Standards.{form-standard, standard-cols}
@@ -25,11 +26,7 @@ pub record DesignMade (n m number : ℕ) (a : List ℕ) (r : ℕ) (d : Design) :
 
 -- the first g places hold the reduced words of standard columns
 abbrev pub WordsAt : ℕ → ℕ → List ℕ → List ℕ → Type 0
-WordsAt n g a zs = (i : ℕ) → i < g → getD zs i 0 ≡ getD (wordsTo a n) i 0
-
--- the first n places hold the columns
-abbrev pub ColumnsAt : ℕ → List ℕ → List ℕ → Type 0
-ColumnsAt n a zs = (f : ℕ) → f < n → getD zs f 0 ≡ getD a f 0
+WordsAt n g a zs = Equal g zs (wordsTo a n)
 
 -- the run table of columns
 pub record RunsMade (n m number : ℕ) (c : List ℕ) (r : ℕ) (t : List ℕ) : Type 0 where
@@ -67,11 +64,11 @@ module _ (fault : ℕ → Type 0) (n g : ℕ) (s : Runs) (number : ℕ) (a : Lis
       l)
 
   -- columns, in a lent list
-  pub columns-fills : ((j : ℕ) → fault j → j ≤ 7) → (ys zs : List ℕ) (r : ℕ) → Lends number n (ColumnsAt n a) ys zs r
+  pub columns-fills : ((j : ℕ) → fault j → j ≤ 7) → (ys zs : List ℕ) (r : ℕ) → Lends number n (λ zs. Equal n zs a) ys zs r
       → Fills (either fault (LentFault n ys)) n (StandardColumns n (n - g) s) ys zs r
   columns-fills most ys zs r l =
       lends-fills fault number n (StandardColumns n (n - g) s) ys zs r most (ad .lowest)
-      (lends-means number n (ColumnsAt n a) (StandardColumns n (n - g) s) ys zs r
+      (lends-means number n (λ zs. Equal n zs a) (StandardColumns n (n - g) s) ys zs r
       (λ e w. form-standard n (n - g) s zs (standard-cols n (n - g) s a zs (ad .standard e) (λ f h. sym (w f h))))
       l)
 

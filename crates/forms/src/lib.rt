@@ -1,15 +1,16 @@
 // Words, columns and run tables turned into each other.
 ghost use mathlib.Core.Path.{_≡_};
-ghost use Prim.Native.Nat.{ℕ, _-_, _^_, _≤_, _<_};
-ghost use lib.ListN.{length, getD, replicate};
+ghost use Prim.Native.Nat.{_-_, _^_};
+ghost use lib.ListN.{getD, replicate};
 ghost use Rattle.regular.specs.Sizes.{Size};
 ghost use Rattle.regular.specs.Runs.{runsOf, switched};
 ghost use Rattle.regular.specs.Words.{Generated, Reduced};
 ghost use Rattle.regular.specs.Columns.{planOf, Listed, RunTable, RunsOfPlan, StandardColumns};
 ghost use Rattle.regular.specs.Designs.{Holds, blank};
+ghost use Rattle.regular.specs.Smallest.{Equal};
 ghost use Rattle.regular.specs.Refusals.{wordsFaults, runsFaults, designFaults, columnsFaults, LentFault, either, Gives, Fills};
 ghost use Rattle.lent.specs.Lends.{Lends};
-ghost use Rattle.forms.specs.Made.{DesignMade, RunsMade, WordsAt, ColumnsAt};
+ghost use Rattle.forms.specs.Made.{DesignMade, RunsMade, WordsAt};
 use bits::power;
 use regular::Admitted;
 use regular::Design;
@@ -73,22 +74,14 @@ pub fn columns_of_runs(n: usize, g: usize, runs: &[u16], out: &mut [u8]) -> u8
 // The standard columns of an admitted plan, in a lent list.
 fn lend_columns(n: usize, g: usize, plan: Admitted, out: &mut [u8]) -> u8
     requires { ⌜ (plan .number ≡ 0 → Size n g) ⌝ }
-    ensures { λ r. ⌜ Lends (plan .number) n (ColumnsAt n (plan .columns)) (now (out .entry)) (now (out .exit)) r ⌝ }
+    ensures { λ r. ⌜ Lends (plan .number) n (λ zs. Equal n zs (plan .columns)) (now (out .entry)) (now (out .exit)) r ⌝ }
 {
     let number = plan.number;
     if number != 0 {
         return number;
     }
     let columns = plan.columns;
-    lend_first(n, columns, out)
-}
-
-// The first n columns, in a lent list.
-fn lend_first(n: usize, columns: [u8; 16], out: &mut [u8]) -> u8
-    requires { ⌜ n ≤ 16 ⌝ }
-    ensures { λ r. ⌜ Lends 0 n (ColumnsAt n columns) (now (out .entry)) (now (out .exit)) r ⌝ }
-{
-    lent::lend_bytes(&columns[..n], out)
+    lent::lend_first(n, columns, out)
 }
 
 // The reduced words of an admitted plan, in a lent list.

@@ -1,18 +1,18 @@
 -- Laws of digits and of exclusive-or: digit by digit, associative, extensional. Parity has its own file.
-use mathlib.Core.Path.{_≡_, refl, sym, ap, ap₂, _∙_}
+use mathlib.Core.Path.{_≡_, refl, sym, ap, _∙_}
 use Prim.Native.Nat.{ℕ, zero, suc, _+_, _-_, _*_, _/_, _%_, _^_, _≤_, _<_}
-use native.Mathlib.Nat.{mod-eq-of-lt, zero-div, two-pow-succ}
+use native.Mathlib.Nat.{mod-eq-of-lt, zero-div}
 use native.Mathlib.Omega.{arith}
 use native.Mathlib.Numerals.{one-add}
-use native.Mathlib.Decide.{ℕ-discrete, decLe}
+use native.Mathlib.Decide.{decLe}
 use mathlib.Core.Logic.{by-cases}
 use lib.Bits.{bitXor, differ, xor-step, xor-shr, xor-lt, xor-self, xor-zero-l, xor-zero-r, xor-comm, xor-shifted, shifted-half, shifted-even}
 use lib.Arith.{bin-ind, digits-div}
-use lib.Pow.{shr-shr, pow-lt, pow-pos, split}
+use lib.Pow.{shr-shr, pow-lt, pow-pos}
 use Rattle.gf2.specs.Digits.{bit}
 
 -- the digit of a sum without carry
-pub differ-mod : (x y : ℕ) → x < 2 → y < 2 → differ x y ≡ (x + y) % 2
+differ-mod : (x y : ℕ) → x < 2 → y < 2 → differ x y ≡ (x + y) % 2
 differ-mod zero y hx hy = omega arith
 differ-mod (suc zero) zero hx hy = refl
 differ-mod (suc zero) (suc zero) hx hy = refl

@@ -26,7 +26,7 @@ xor-step : (a b : ℕ) → ones (bitXor (a / 2) (b / 2)) ≤ ones (a / 2) + ones
 xor-step a b ih =
     omega (arith, ones-step (bitXor a b), ones-step a, ones-step b, xor-low a b, ap ones (xor-half a b))
 
-pub ones-xor : (a b : ℕ) → ones (bitXor a b) ≤ ones a + ones b
+ones-xor : (a b : ℕ) → ones (bitXor a b) ≤ ones a + ones b
 ones-xor = bin-ind (λ (a : ℕ). (b : ℕ) → ones (bitXor a b) ≤ ones a + ones b)
     (λ b. omega (arith, ap ones (xor-zero-l b)))
     (λ a ih b. xor-step a b (ih (b / 2)))
@@ -59,7 +59,7 @@ even-less w f v h e =
     same-by-half w (bitXor (2 ^ suc f) (v * 2)) (omega (arith, xor-low (2 ^ suc f) (v * 2))) (e ∙ sym (xor-half (2 ^ suc f) (v * 2) ∙ ap₂ bitXor b q))
 
 -- twice a number has its digits
-pub ones-double : (v : ℕ) → ones (v * 2) ≡ ones v
+ones-double : (v : ℕ) → ones (v * 2) ≡ ones v
 ones-double v =
     let q : v * 2 / 2 ≡ v = omega arith in
     omega (arith, ones-step (v * 2), ap ones q)
@@ -92,10 +92,10 @@ less (suc n) w h l =
 pub ones-some : (n w : ℕ) → 0 < w → w < 2 ^ n → 0 < ones w
 ones-some n w h l = omega (arith, less n w h l .fewer)
 
-pub ones-none : (n w : ℕ) → w < 2 ^ n → ones w ≡ 0 → w ≡ 0
+ones-none : (n w : ℕ) → w < 2 ^ n → ones w ≡ 0 → w ≡ 0
 ones-none n w l e = by-cases (ℕ-discrete w 0) (λ z. z) (λ ne. absurd (omega (arith, ones-some n w (omega arith) l)))
 
-pub ones-pos : (w : ℕ) → 0 < ones w → 0 < w
+ones-pos : (w : ℕ) → 0 < ones w → 0 < w
 ones-pos w h = by-cases (ℕ-discrete w 0) (λ z. absurd (omega (arith, ap ones z, ones-zero))) (λ ne. omega arith)
 
 -- one digit set

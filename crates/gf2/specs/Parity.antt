@@ -1,6 +1,6 @@
 -- Laws of the parity of shared digits: by digits, symmetric, linear in each argument, and every linear function of k digits is one.
 use mathlib.Core.Path.{_≡_, sym, ap, ap₂, _∙_}
-use Prim.Native.Nat.{ℕ, zero, suc, _+_, _-_, _*_, _/_, _%_, _^_, _<_, min}
+use Prim.Native.Nat.{ℕ, zero, suc, _+_, _*_, _/_, _%_, _^_, _<_, min}
 use native.Mathlib.Nat.{min-zero, two-pow-succ, mod-lt}
 use native.Mathlib.Omega.{arith}
 use lib.Bits.{bitXor, bitAnd, and-step, and-comm, and-zero-l, xor-shifted, shifted-half, shifted-even}
@@ -13,11 +13,11 @@ use Rattle.gf2.specs.DigitLaws.{xor-low, xor-half, same-by-half, bit-suc
 pub and-low : (a b : ℕ) → bitAnd a b % 2 ≡ min (a % 2) (b % 2)
 and-low a b = omega (arith, and-step a b)
 
-pub and-half : (a b : ℕ) → bitAnd a b / 2 ≡ bitAnd (a / 2) (b / 2)
+and-half : (a b : ℕ) → bitAnd a b / 2 ≡ bitAnd (a / 2) (b / 2)
 and-half a b = omega (arith, and-step a b)
 
 -- the lowest digit, and the parity of the rest
-pub odd-step : (j c : ℕ) → odd j c ≡ (min (j % 2) (c % 2) + odd (j / 2) (c / 2)) % 2
+odd-step : (j c : ℕ) → odd j c ≡ (min (j % 2) (c % 2) + odd (j / 2) (c / 2)) % 2
 unfolding odd
 odd-step j c = omega (arith, ones-step (bitAnd j c), and-low j c, ap ones (and-half j c))
 
@@ -87,13 +87,13 @@ odd-bit i j =
     ap (λ (k : ℕ). odd k j) e ∙ odd-shift i 1 j (omega arith) ∙ omega arith
 
 -- numbers whose digits lie apart share nothing
-pub odd-apart : (l d k : ℕ) → k < 2 ^ l → odd (d * 2 ^ l) k ≡ 0
+odd-apart : (l d k : ℕ) → k < 2 ^ l → odd (d * 2 ^ l) k ≡ 0
 odd-apart zero d k h = ap (odd (d * 1)) (lt-one h) ∙ odd-zero-r (d * 1)
 odd-apart (suc l) d k h =
     odd-step (d * 2 ^ suc l) k
     ∙ omega (arith, shifted-even d l, ap (λ (y : ℕ). odd y (k / 2)) (shifted-half d l) ∙ odd-apart l d (k / 2) (omega (arith, two-pow-succ l)))
 
-pub odd-unit : (l d : ℕ) → d < 2 → odd (d * 2 ^ l) (2 ^ l) ≡ d
+odd-unit : (l d : ℕ) → d < 2 → odd (d * 2 ^ l) (2 ^ l) ≡ d
 odd-unit l d h =
     let e : d * 2 ^ l + 0 ≡ d * 2 ^ l = omega arith in
     odd-comm (d * 2 ^ l) (2 ^ l) ∙ odd-bit l (d * 2 ^ l) ∙ ap (λ (x : ℕ). bit l x) (sym e) ∙ bit-top l d 0 h (pow-pos l)

@@ -5,10 +5,11 @@ use mathlib.Core.List.{List}
 use Prim.Native.Nat.{ℕ, zero, suc, _≤_, _<_}
 use native.Mathlib.Omega.{arith}
 use native.Mathlib.Decide.{decLt}
-use lib.ListN.{length, drop, take, getD}
+use lib.ListN.{length, drop, take}
 use lib.Seq.{getD-take}
 use Rattle.regular.specs.Refusals.{LentFault, either, Lowest, Fills}
-use Rattle.regular.specs.RefusalLaws.{lowest-first, lowest-then, lowest-none, lowest-at, lent-is}
+use Rattle.regular.specs.RefusalLaws.{lowest-first, lowest-then, lent-is, lent-short, lent-fits}
+use Rattle.regular.specs.Smallest.{Equal}
 use Rattle.lent.specs.Copied.{Copied, Starts, copied-begins, copied-past, copied-size}
 
 -- what becomes of a lent list when the plan has the refusal `number`, 0 if accepted: k places are filled by a result
@@ -58,16 +59,22 @@ lends-means number k A B ys zs r h l = record {
   size = l .size;
 }
 
-lent-none : (k : ℕ) (ys : List ℕ) → k ≤ length ys → (j : ℕ) → LentFault k ys j → ⊥
-lent-none k ys h j (LentFault.few l) = omega arith
-
 -- the first k places of an array, lent on
 pub lends-part : (k : ℕ) (arr ys zs : List ℕ) (r : ℕ) → k ≡ length (take k arr) → Lends 0 (length (take k arr)) (Starts (take k arr)) ys zs r
-    → Lends 0 k (λ zs. (i : ℕ) → i < k → getD zs i 0 ≡ getD arr i 0) ys zs r
+    → Lends 0 k (λ zs. Equal k zs arr) ys zs r
 lends-part k arr ys zs r e l =
-    subst (λ (j : ℕ). Lends 0 j (λ zs. (i : ℕ) → i < k → getD zs i 0 ≡ getD arr i 0) ys zs r) (sym e)
-    (lends-means 0 (length (take k arr)) (Starts (take k arr)) (λ zs. (i : ℕ) → i < k → getD zs i 0 ≡ getD arr i 0) ys zs r
+    subst (λ (j : ℕ). Lends 0 j (λ zs. Equal k zs arr) ys zs r) (sym e)
+    (lends-means 0 (length (take k arr)) (Starts (take k arr)) (λ zs. Equal k zs arr) ys zs r
     (λ _ b i h. b i (omega arith) ∙ getD-take k arr i 0 h) l)
+
+-- .. where the list has the places
+pub record Lent (k : ℕ) (arr entry exit : List ℕ) : Type 0 where
+  pub places : Equal k exit arr
+  pub past : drop k exit ≡ drop k entry
+  pub size : length exit ≡ length entry
+
+pub lends-lent : (k : ℕ) (arr ys zs : List ℕ) (r : ℕ) → k ≤ length ys → Lends 0 k (λ zs. Equal k zs arr) ys zs r → Lent k arr ys zs
+lends-lent k arr ys zs r h l = let f = l .filled refl h in record { places = f .1 .0; past = f .1 .1; size = l .size }
 
 -- the call's contract, from the lowest fault of its plan
 pub lends-fills : (fault : ℕ → Type 0) (number k : ℕ) (Result : List ℕ → Type 0) (ys zs : List ℕ) (r : ℕ) → ((j : ℕ) → fault j → j ≤ 7) → Lowest fault number
@@ -76,7 +83,7 @@ lends-fills fault zero k Result ys zs r most low l =
     by-cases (decLt (length ys) k)
     (λ h. let s = l .short refl h in subst (λ (a : ℕ). Fills (either fault (LentFault k ys)) k Result ys zs a) (sym (s .0))
     (record {
-      number = lowest-then fault (LentFault k ys) 8 low (lowest-at (LentFault k ys) 8 (omega arith) (LentFault.few h) (λ j f. omega (arith, lent-is k ys j f)));
+      number = lowest-then fault (LentFault k ys) 8 low (lent-short k ys h);
       refused = λ _. s .1;
       result = λ e. absurd (omega arith);
       past = λ e. absurd (omega arith);
@@ -84,7 +91,7 @@ lends-fills fault zero k Result ys zs r most low l =
     }))
     (λ h. let s = l .filled refl (omega arith) in subst (λ (a : ℕ). Fills (either fault (LentFault k ys)) k Result ys zs a) (sym (s .0))
     (record {
-      number = lowest-then fault (LentFault k ys) 0 low (lowest-none (LentFault k ys) (lent-none k ys (omega arith)));
+      number = lowest-then fault (LentFault k ys) 0 low (lent-fits k ys (omega arith));
       refused = λ e. absurd (omega arith);
       result = λ _. s .1 .0;
       past = λ _. s .1 .1;

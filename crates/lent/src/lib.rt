@@ -1,8 +1,10 @@
-// Results go into lent lists: the first places are filled, the places past them are untouched. Public for the calls that fill a lent list.
-ghost use mathlib.Core.Path.{_≡_};
+// Results go into lent lists: a list of too few places is refused, else the first places are filled and the places past them are untouched. Public
+// for the calls that fill a lent list.
 ghost use Prim.Native.Nat.{_≤_};
 ghost use lib.ListN.{length};
+ghost use Rattle.regular.specs.Smallest.{Equal};
 ghost use Rattle.lent.specs.Copied.{Copied, Starts};
+ghost use Rattle.lent.specs.Lending.{Lending};
 ghost use Rattle.lent.specs.Lends.{Lends};
 
 // The numbers of `numbers`, at the first places of `out`.
@@ -48,5 +50,26 @@ pub fn lend_bytes(bytes: &[u8], out: &mut [u8]) -> u8
         return 8;
     }
     copy_bytes(bytes, out);
+    0
+}
+
+// The first n bytes of an array as a result: 8 if `out` has too few places, else 0 with `out` filled.
+pub fn lend_first(n: usize, bytes: [u8; 16], out: &mut [u8]) -> u8
+    requires { ⌜ n ≤ 16 ⌝ }
+    ensures { λ r. ⌜ Lends 0 n (λ zs. Equal n zs bytes) (now (out .entry)) (now (out .exit)) r ⌝ }
+{
+    lend_bytes(&bytes[..n], out)
+}
+
+// The number of a call's other arguments, or else 8 if a lent list has fewer than n places, for the calls that judge it before they fill it.
+pub fn lending(number: u8, n: usize, places: usize) -> u8
+    ensures { λ r. ⌜ Lending number n places r ⌝ }
+{
+    if number != 0 {
+        return number;
+    }
+    if places < n {
+        return 8;
+    }
     0
 }

@@ -14,7 +14,7 @@ use Rattle.regular.specs.Smallest.{Equal}
 use Rattle.regular.specs.SmallestAnswers.{FirstPlace, ColumnsPlace}
 
 -- the columns of plan i
-pub plan-column : (n : ℕ) (list : List ℕ) (i f : ℕ) → f < n → getD (planAt n list i) f 0 ≡ getD list (i * n + f) 0
+plan-column : (n : ℕ) (list : List ℕ) (i f : ℕ) → f < n → getD (planAt n list i) f 0 ≡ getD list (i * n + f) 0
 plan-column n list i f h = getD-take n (drop (i * n) list) f 0 h ∙ getD-drop (i * n) list f 0
 
 -- the first `place` plans, which take `base` places, are none with the columns c

@@ -14,7 +14,7 @@ use Rattle.counts.specs.Resolutions.{resolution-of-pattern}
 use Rattle.lent.specs.Copied.{Starts}
 use Rattle.lent.specs.Lends.{Lends, lends-means, lends-part, lends-fills}
 use Rattle.admission.specs.Admission.{Admission}
-use Rattle.measures.specs.Ready.{Ready, pattern-begins, distances-begins}
+use Rattle.measures.specs.Ready.{pattern-begins, distances-begins}
 
 -- the resolution k of the plan s with the refusal `number`, 0 if accepted
 pub record ResolutionMade (n : ℕ) (s : Runs) (number r k : ℕ) : Type 0 where
@@ -50,9 +50,6 @@ distances-lends {number} {n} {s} {d} {ys} {zs} {r} e h c = lends-start number (n
 
 -- a plan s, admitted with the standard columns a
 module _ {fault : ℕ → Type 0} {n g : ℕ} {s : Runs} {number : ℕ} {a : List ℕ} (ad : Admission fault n g s number a) where
-  pub ready : number ≡ 0 → Ready n g a
-  ready e = record { size = ad .size e; form = ad .standard e .form; plain = ad .plain e }
-
   abbrev plan : Runs
   plan = planOf n (n - g) a
 

@@ -14,22 +14,16 @@ use Rattle.gf2.specs.Members.{In}
 use Rattle.regular.specs.Columns.{planOf, RunTable}
 use Rattle.regular.specs.Pattern.{Pattern, Distances}
 use Rattle.regular.specs.Runs.{Runs}
-use Rattle.regular.specs.Sizes.{Size}
 use Rattle.regular.specs.Words.{Word, letters}
-use Rattle.standard.specs.Form.{StandardForm, StandardFor, Plain}
+use Rattle.standard.specs.Form.{StandardFor}
 use Rattle.standard.specs.Runs.{run-lt}
 use Rattle.standard.specs.Units.{standard-below, standard-apart}
 use Rattle.words.specs.Generators.{Generators}
 use Rattle.counts.specs.Distances.{model-distances}
 use Rattle.counts.specs.Models.{PatternModel, DistanceModel}
 use Rattle.counts.specs.WordCounts.{model-pattern}
+use Rattle.admission.specs.Admission.{Ready}
 use Rattle.generators.specs.WordTable.{WordTable, table-generators}
-
--- sizes in bounds, and columns in standard form, none of them 0 or standing twice
-pub record Ready (n g : ℕ) (a : List ℕ) : Type 0 where
-  pub size : Size n g
-  pub form : StandardForm n (n - g) a
-  pub plain : Plain n a
 
 module _ {n g : ℕ} {a : List ℕ} (ready : Ready n g a) where
   abbrev column : ℕ → ℕ

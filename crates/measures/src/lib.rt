@@ -1,14 +1,14 @@
 // Pattern, resolution and distance counts of a plan in any of its forms.
 ghost use mathlib.Core.Path.{_≡_};
-ghost use Prim.Native.Nat.{ℕ, _+_, _-_, _≤_, _<_};
-ghost use lib.ListN.{length, getD};
+ghost use Prim.Native.Nat.{_+_, _-_, _<_};
+ghost use lib.ListN.{getD};
 ghost use Rattle.regular.specs.Runs.{runsOf};
 ghost use Rattle.regular.specs.Words.{Generated};
 ghost use Rattle.regular.specs.Columns.{planOf};
 ghost use Rattle.regular.specs.Pattern.{Pattern, Resolution, Distances};
 ghost use Rattle.regular.specs.Refusals.{wordsFaults, designFaults, columnsFaults, runsFaults, LentFault, either, Gives, Fills};
 ghost use Rattle.lent.specs.Lends.{Lends};
-ghost use Rattle.measures.specs.Ready.{Ready};
+ghost use Rattle.admission.specs.Admission.{Ready};
 ghost use Rattle.measures.specs.Measured.{ResolutionMade};
 use bits::power;
 use regular::Admitted;

@@ -1,45 +1,28 @@
 -- A list of plans that nothing is wrong with: its sizes are in bounds and no plan of it has a fault.
-use Prim.Native.Nat.{ℕ, _*_, _-_, _/_, _%_, _≤_, _<_}
+use Prim.Native.Nat.{ℕ, _*_, _/_, _%_, _≤_, _<_}
 use mathlib.Core.Path.{_≡_}
 use mathlib.Core.Logic.{inl, inr, by-cases}
 use mathlib.Core.List.{List}
-use native.Mathlib.Decide.{ℕ-discrete, decLt}
+use native.Mathlib.Decide.{ℕ-discrete}
 use native.Mathlib.Omega.{arith}
 use lib.ListN.{length, getD}
-use Rattle.regular.specs.Sizes.{Size}
+use Rattle.regular.specs.Sizes.{Sized}
 use Rattle.regular.specs.Designs.{blank}
-use Rattle.regular.specs.Refusals.{SizeFault, ResolutionFault, Lowest, designFaults, columnsFaults, sizeFaults}
-use Rattle.regular.specs.RefusalLaws.{lowest-none, none-lowest, size-most, design-faults-most, columns-faults-most}
+use Rattle.regular.specs.Refusals.{Lowest, designFaults, columnsFaults, sizeFaults}
+use Rattle.regular.specs.Accepted.{accepted-sizes}
+use Rattle.regular.specs.RefusalLaws.{lowest-none, none-lowest, size-most, resolution-is, design-faults-most, columns-faults-most}
 use Rattle.regular.specs.PlanLists.{planAt, HasPlan, BytesFault, wantedRecordsFaults, wantedPlansFaults}
 use Rattle.regular.specs.declared.Design.{Design}
-use Rattle.plan_lists.specs.Judging.{multiple-of, no-multiple, wanted-is, resolution-is}
-
--- the sizes and the wanted resolution are in bounds
-pub record InBounds (n g r : ℕ) : Type 0 where
-  pub size : Size n g
-  pub low : 3 ≤ r
-  pub high : r ≤ 16
-
-in-bounds : (n g r : ℕ) → ((k : ℕ) → sizeFaults n g r k → ⊥) → InBounds n g r
-in-bounds n g r never = record {
-  size = record {
-    some = by-cases (decLt n 1) (λ h. absurd (never 1 (inl (SizeFault.factors (inl h))))) (λ h. omega arith);
-    most = by-cases (decLt 16 n) (λ h. absurd (never 1 (inl (SizeFault.factors (inr h))))) (λ h. omega arith);
-    less = by-cases (decLt g n) (λ h. h) (λ h. absurd (never 2 (inl (SizeFault.generators (inl (omega arith))))));
-    few = by-cases (decLt 7 (n - g)) (λ h. absurd (never 2 (inl (SizeFault.generators (inr h))))) (λ h. omega arith);
-  };
-  low = by-cases (decLt r 3) (λ h. absurd (never 3 (inr (ResolutionFault.outside (inl h))))) (λ h. omega arith);
-  high = by-cases (decLt 16 r) (λ h. absurd (never 3 (inr (ResolutionFault.outside (inr h))))) (λ h. omega arith);
-}
+use Rattle.plan_lists.specs.Judging.{multiple-of, no-multiple, wanted-is}
 
 -- design records
 pub record AcceptedRecords (n g r : ℕ) (list : List Design) : Type 0 where
-  pub bounds : InBounds n g r
+  pub bounds : Sized n g r
   pub plan : (i : ℕ) → i < length list → Lowest (designFaults n g (getD list i blank)) 0
 
 pub records-accepted : (n g r : ℕ) (list : List Design) → Lowest (wantedRecordsFaults n g r list) 0 → AcceptedRecords n g r list
 records-accepted n g r list l = record {
-  bounds = in-bounds n g r sizes;
+  bounds = accepted-sizes n g r sizes;
   plan = λ i h. lowest-none (designFaults n g (getD list i blank)) (λ k f. none-lowest (wantedRecordsFaults n g r list) l k (inl (inr (i, (h, f)))));
 }
   where
@@ -49,7 +32,7 @@ records-accepted n g r list l = record {
 
 -- plans as bytes
 pub record AcceptedPlans (n g r : ℕ) (bytes : List ℕ) : Type 0 where
-  pub bounds : InBounds n g r
+  pub bounds : Sized n g r
   pub multiple : length bytes ≡ (length bytes / n) * n
   pub plan : (i : ℕ) → HasPlan n bytes i → Lowest (columnsFaults n g (planAt n bytes i)) 0
 
@@ -65,8 +48,8 @@ plans-accepted n g r bytes l = record {
     sizes k (inl s) = none-lowest (wantedPlansFaults n g r bytes) l k (inl (inl s))
     sizes k (inr f) = none-lowest (wantedPlansFaults n g r bytes) l k (inr (inl f))
 
-    bounds : InBounds n g r
-    bounds = in-bounds n g r sizes
+    bounds : Sized n g r
+    bounds = accepted-sizes n g r sizes
 
 -- the faults of a list of plans are below 8, the number of a lent result
 pub records-most : (n g r : ℕ) (list : List Design) (k : ℕ) → wantedRecordsFaults n g r list k → k ≤ 7

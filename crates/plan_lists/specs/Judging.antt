@@ -10,58 +10,30 @@ use native.Mathlib.Omega.{arith}
 use lib.Arith.{digits-mod}
 use lib.ListN.{length, getD, take, drop}
 use Rattle.gf2.specs.Letters.{ones-some}
-use Rattle.regular.specs.Sizes.{Size}
 use Rattle.regular.specs.Runs.{Runs}
 use Rattle.regular.specs.Words.{NoShort}
 use Rattle.regular.specs.Columns.{planOf}
 use Rattle.regular.specs.Designs.{blank}
 use Rattle.regular.specs.Pattern.{Pattern, Resolution}
-use Rattle.regular.specs.Refusals.{SizeFault, ResolutionFault, ColumnsFault, WantedFault, either, Lowest, sizeFaults}
-use Rattle.regular.specs.RefusalLaws.{lowest-none, lowest-at, lowest-same, lowest-first, lowest-then, lowest-lower, none-lowest, size-most, list-is, columns-least, Lower}
+use Rattle.regular.specs.Refusals.{ResolutionFault, ColumnsFault, WantedFault, either, Lowest, sizeFaults}
+use Rattle.regular.specs.RefusalLaws.{lowest-none, lowest-at, lowest-same, lowest-first, lowest-then, lowest-lower, none-lowest, list-is, columns-least, Lower}
 use Rattle.regular.specs.PlanLists.{planAt, HasPlan, BytesFault, ofSome, recordsFaults, plansFaults, wantedRecordsFaults, wantedPlansFaults}
 use Rattle.regular.specs.declared.Design.{Design}
 use Rattle.words.specs.Short.{plain-long}
 use Rattle.words.specs.Switches.{agree-sym, short-agree}
 use Rattle.counts.specs.Models.{firstLength}
 use Rattle.counts.specs.Resolutions.{resolution-of-pattern}
-use Rattle.measures.specs.Ready.{Ready}
-use Rattle.admission.specs.Admission.{Admission}
+use Rattle.admission.specs.Admission.{Admission, Ready}
 use Rattle.plan_lists.specs.Judged.{designWanted, columnsWanted, Verdict, Joined, AllJudged}
 
 -- the wanted resolution
 pub wanted-is : (n r : ℕ) (s : Runs) (k : ℕ) → WantedFault n r s k → k ≡ 7
 wanted-is n r s k (WantedFault.short h) = refl
 
-pub resolution-is : (r k : ℕ) → ResolutionFault r k → k ≡ 3
-resolution-is r k (ResolutionFault.outside h) = refl
-
-pub resolution-never : (r k : ℕ) → 3 ≤ r → r ≤ 16 → ResolutionFault r k → ⊥
-resolution-never r k a b (ResolutionFault.outside (inl h)) = omega arith
-resolution-never r k a b (ResolutionFault.outside (inr h)) = omega arith
-
--- the sizes, then the wanted resolution
-abbrev Sizes : ℕ → ℕ → ℕ → ℕ → Type 0
-Sizes n g r k = Lowest (sizeFaults n g r) k × (k ≡ 0 → Size n g) × (k ≤ 3)
-
-pub sizes-first : (n g r k : ℕ) → (k ≡ 0 → ⊥) → Lowest (SizeFault n g) k → Sizes n g r k
-sizes-first n g r k some l =
-    let low = size-most n g k (l .applies (omega arith)) in
-    (lowest-first (SizeFault n g) (ResolutionFault r) k (omega arith) l (λ j f. omega (arith, resolution-is r j f)), (λ e. absurd (some e)), omega arith)
-
-pub sizes-three : (n g r k : ℕ) → k ≡ 0 → Lowest (SizeFault n g) k → (r < 3) ⊎ (16 < r) → Sizes n g r 3
-sizes-three n g r k e l h = (
-  lowest-then (SizeFault n g) (ResolutionFault r) 3 (subst (Lowest (SizeFault n g)) e l)
-      (lowest-at (ResolutionFault r) 3 (omega arith) (ResolutionFault.outside h) (λ j f. omega (arith, resolution-is r j f))),
-  (λ z. absurd (omega arith)),
-  omega arith,
-)
-
-pub sizes-none : (n g r k : ℕ) → k ≡ 0 → Lowest (SizeFault n g) k → (k ≡ 0 → Size n g) → 3 ≤ r → r ≤ 16 → Sizes n g r 0
-sizes-none n g r k e l z low high = (
-  lowest-then (SizeFault n g) (ResolutionFault r) 0 (subst (Lowest (SizeFault n g)) e l) (lowest-none (ResolutionFault r) (λ j f. resolution-never r j low high f)),
-  (λ _. z e),
-  omega arith,
-)
+-- 3 is within bounds
+resolution-3 : (k : ℕ) → ResolutionFault 3 k → ⊥
+resolution-3 k (ResolutionFault.outside (inl h)) = omega arith
+resolution-3 k (ResolutionFault.outside (inr h)) = omega arith
 
 -- no word is shorter
 pub wanted-none : (n r : ℕ) (s : Runs) → NoShort n r s → Lowest (WantedFault n r s) 0
@@ -179,7 +151,7 @@ three-records n g list k = lowest-same (wantedRecordsFaults n g 3 list) (records
   where
     into : (j : ℕ) → wantedRecordsFaults n g 3 list j → recordsFaults n g list j
     into j (inl f) = f
-    into j (inr (inl f)) = absurd (resolution-never 3 j (omega arith) (omega arith) f)
+    into j (inr (inl f)) = absurd (resolution-3 j f)
     into j (inr (inr (i, (l, WantedFault.short w)))) = inr (i, (l, inr (inr (ColumnsFault.short w))))
 
 pub three-plans : (n g : ℕ) (bytes : List ℕ) (k : ℕ) → Lowest (wantedPlansFaults n g 3 bytes) k → Lowest (plansFaults n g bytes) k
@@ -187,7 +159,7 @@ three-plans n g bytes k = lowest-same (wantedPlansFaults n g 3 bytes) (plansFaul
   where
     into : (j : ℕ) → wantedPlansFaults n g 3 bytes j → plansFaults n g bytes j
     into j (inl f) = f
-    into j (inr (inl f)) = absurd (resolution-never 3 j (omega arith) (omega arith) f)
+    into j (inr (inl f)) = absurd (resolution-3 j f)
     into j (inr (inr (i, (l, WantedFault.short w)))) = inr (inr (i, (l, inr (inr (ColumnsFault.short w)))))
 
 -- plans as bytes

@@ -4,32 +4,15 @@
 ghost use mathlib.Core.Path.{_≡_};
 ghost use Prim.Native.Nat.{ℕ, _+_, _*_, _-_, _≤_, _<_};
 ghost use lib.ListN.{length};
-ghost use Rattle.regular.specs.Sizes.{Size};
 ghost use Rattle.regular.specs.Columns.{planOf};
 ghost use Rattle.regular.specs.Refusals.{Lowest, sizeFaults};
 ghost use Rattle.regular.specs.PlanLists.{wantedRecordsFaults, wantedPlansFaults};
-ghost use Rattle.measures.specs.Ready.{Ready};
+ghost use Rattle.admission.specs.Admission.{Ready};
 ghost use Rattle.plan_lists.specs.Judged.{Verdict, designWanted, columnsWanted, Joined, AllJudged};
+use admission::bounds_number;
 use admission::lower_of;
 use regular::Admitted;
 use regular::Design;
-
-// 1 to 3 if the sizes or the wanted resolution are out of bounds, else 0.
-fn sizes(n: usize, g: usize, r: usize) -> u8
-    ensures { λ k. ⌜ Lowest (sizeFaults n g r) k × (k ≡ 0 → Size n g) × (k ≤ 3) ⌝ }
-{
-    let number = admission::size_number(n, g);
-    if number != 0 {
-        return number;
-    }
-    if r < 3 {
-        return 3;
-    }
-    if 16 < r {
-        return 3;
-    }
-    0
-}
 
 // An admitted plan where the resolution r is wanted: its own number, or 7 if a word is shorter than r. An admitted plan has none shorter than 3.
 fn wanted(n: usize, g: usize, r: usize, plan: Admitted) -> u8
@@ -84,7 +67,7 @@ pub fn records_refusal(n: usize, g: usize, r: usize, list: &[Design]) -> u8
     ensures { λ k. ⌜ Lowest (wantedRecordsFaults n g r (now (list .entry))) k ⌝ }
 {
     let mut i: usize = 0;
-    let mut lowest = sizes(n, g, r);
+    let mut lowest = bounds_number(n, g, r);
     while i < list.len() {
         let d = list[i];
         lowest = judge(n, g, r, d, lowest);
@@ -113,7 +96,7 @@ fn each_refusal(n: usize, g: usize, r: usize, plans: &[u8]) -> u8
 pub fn plans_refusal(n: usize, g: usize, r: usize, plans: &[u8]) -> u8
     ensures { λ k. ⌜ Lowest (wantedPlansFaults n g r (now (plans .entry))) k ⌝ }
 {
-    let number = sizes(n, g, r);
+    let number = bounds_number(n, g, r);
     if number != 0 {
         return number;
     }

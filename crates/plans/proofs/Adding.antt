@@ -21,7 +21,7 @@ pub adds-none : (xs : List ℕ) (at : ℕ) → Adds xs xs at [] at
 adds-none xs at = record { text = sym (append-nil (take at xs)); place = omega arith; size = refl }
 
 -- one byte more
-pub adds-byte : (xs ys : List ℕ) (at : ℕ) (t : List ℕ) (end b : ℕ) → Adds xs ys at t end → end < length ys → Adds xs (set ys end b) at (t ++ (b ∷ [])) (end + 1)
+adds-byte : (xs ys : List ℕ) (at : ℕ) (t : List ℕ) (end b : ℕ) → Adds xs ys at t end → end < length ys → Adds xs (set ys end b) at (t ++ (b ∷ [])) (end + 1)
 adds-byte xs ys at t end b a h =
     record {
       text =
@@ -111,7 +111,7 @@ pub line-of : {xs ys : List ℕ} {t : List ℕ} {k : ℕ} → Adds xs ys 0 t k �
 line-of {xs} {ys} {t} {k} a h = (counts k ys (omega (arith, a .size, h)), a .text)
 
 -- one more number
-pub spaced-more : (xs : List ℕ) (x : ℕ) → spaced (xs ++ (x ∷ [])) ≡ spaced xs ++ next x
+spaced-more : (xs : List ℕ) (x : ℕ) → spaced (xs ++ (x ∷ [])) ≡ spaced xs ++ next x
 unfolding spaced
 spaced-more [] x = append-nil (next x)
 spaced-more (y ∷ ys) x = ap (λ (l : List ℕ). next y ++ l) (spaced-more ys x) ∙ sym (append-assoc (next y) (spaced ys) (next x))

@@ -1,23 +1,20 @@
 -- An entry of a catalogue is a design without fault, so that a call on it is accepted; and an accepted catalogue lists entries.
 use mathlib.Core.Path.{_≡_, refl, subst}
-use mathlib.Core.Logic.{_⊎_, inl, inr, ⊎-elim, by-cases}
+use mathlib.Core.Logic.{inl, ⊎-elim, by-cases}
 use mathlib.Core.List.{List, [], _∷_}
 use Prim.Native.Nat.{ℕ, zero, suc, _-_, _≤_, _<_}
 use native.Mathlib.Nat.{not-suc-le-zero, le-of-suc-le-suc}
-use native.Mathlib.Decide.{decLe, decLt}
+use native.Mathlib.Decide.{decLt}
 use native.Mathlib.Omega.{arith}
 use lib.ListN.{length, getD, replicate, length-replicate}
-use Rattle.regular.specs.Refusals.{SizeFault, ResolutionFault, RecordFault, ColumnsFault, LentFault, either, designFaults, Lowest, Gives, Fills}
-use Rattle.regular.specs.RefusalLaws.{none-lowest}
-use Rattle.regular.specs.Sizes.{Size}
+use Rattle.regular.specs.Refusals.{SizeFault, RecordFault, ColumnsFault, LentFault, either, designFaults, Lowest, Gives, Fills}
+use Rattle.regular.specs.RefusalLaws.{none-lowest, lent-fits}
+use Rattle.regular.specs.Accepted.{size-accepted, accepted-sizes}
+use Rattle.regular.specs.Sizes.{Sized}
 use Rattle.regular.specs.Designs.{blank}
 use Rattle.regular.specs.declared.Design.{Design}
 use Rattle.regular.specs.Catalogues.{catalogueFaults, ListsDesigns}
 use Rattle.plans.specs.Listed.{Listable, AllListable}
-
-sized : {n g : ℕ} {d : Design} → Listable n g d → (j : ℕ) → SizeFault n g j → ⊥
-sized l j (SizeFault.factors f) = ⊎-elim (λ h. omega (arith, h, l .size .some)) (λ h. omega (arith, h, l .size .most)) f
-sized l j (SizeFault.generators f) = ⊎-elim (λ h. omega (arith, h, l .size .less)) (λ h. omega (arith, h, l .size .few)) f
 
 recorded : {n g : ℕ} {d : Design} → Listable n g d → (j : ℕ) → RecordFault n (n - g) d j → ⊥
 recorded l j (RecordFault.factors f) = f (l .holds .factors)
@@ -30,7 +27,7 @@ columned l j (ColumnsFault.rank f) = f (l .holds .columns .smallest .columns .ra
 columned l j (ColumnsFault.short s) = let b = l .holds .columns .long (s .word) (s .is) in omega (arith, b, s .few, l .low)
 
 no-fault : {n g : ℕ} {d : Design} → Listable n g d → (j : ℕ) → designFaults n g d j → ⊥
-no-fault l j = ⊎-elim (sized l j) (⊎-elim (recorded l j) (columned l j))
+no-fault {n} {g} l j = ⊎-elim (none-lowest (SizeFault n g) (size-accepted n g (l .size)) j) (⊎-elim (recorded l j) (columned l j))
 
 accepted : {fault : ℕ → Type 0} {r : ℕ} → ((j : ℕ) → fault j → ⊥) → Lowest fault r → r ≡ 0
 accepted {r = r} none l = by-cases (decLt 0 r) (λ h. absurd (none r (l .applies h))) (λ h. omega (arith, h))
@@ -41,31 +38,18 @@ listed-gives l h = h .result (accepted (no-fault l) (h .number))
 
 pub listed-fills : {n g : ℕ} {d : Design} → Listable n g d → {k r : ℕ} {Result : List ℕ → Type 0} {ys zs : List ℕ} → k ≤ length ys
     → Fills (either (designFaults n g d) (LentFault k ys)) k Result ys zs r → Result zs
-listed-fills l {k = k} {ys = ys} room h = h .result (accepted (λ j. ⊎-elim (no-fault l j) (lent j)) (h .number))
-  where
-    lent : (j : ℕ) → LentFault k ys j → ⊥
-    lent j (LentFault.few f) = omega (arith, f, room)
+listed-fills l {k = k} {ys = ys} room h = h .result (accepted (λ j. ⊎-elim (no-fault l j) (none-lowest (LentFault k ys) (lent-fits k ys room) j)) (h .number))
 
 -- the records that an accepted catalogue lists
 module _ {n g r : ℕ} {room : ℕ → Type 0} (low : Lowest (catalogueFaults n g r room) 0) where
-  size-of : Size n g
-  size-of =
-      let none = none-lowest (catalogueFaults n g r room) low in
-      record {
-        some = by-cases (decLe 1 n) (λ h. h) (λ h. absurd (none 1 (inl (inl (SizeFault.factors (inl (omega (arith, h))))))));
-        most = by-cases (decLe n 16) (λ h. h) (λ h. absurd (none 1 (inl (inl (SizeFault.factors (inr (omega (arith, h))))))));
-        less = by-cases (decLt g n) (λ h. h) (λ h. absurd (none 2 (inl (inl (SizeFault.generators (inl (omega (arith, h))))))));
-        few = by-cases (decLe (n - g) 7) (λ h. h) (λ h. absurd (none 2 (inl (inl (SizeFault.generators (inr (omega (arith, h))))))));
-      }
-
-  low-of : 3 ≤ r
-  low-of = by-cases (decLe 3 r) (λ h. h) (λ h. absurd (none-lowest (catalogueFaults n g r room) low 3 (inl (inr (ResolutionFault.outside (inl (omega (arith, h))))))))
+  bounds : Sized n g r
+  bounds = accepted-sizes n g r (λ k f. none-lowest (catalogueFaults n g r room) low k (inl f))
 
 pub all-listable : (n g r : ℕ) (d : Design) (zs : List Design) (number count : ℕ) → ListsDesigns n g r (replicate 1024 d) zs number count → number ≡ 0
     → (count ≤ 1024) × AllListable n g count zs
 all-listable n g r d zs number count l e =
     let low : Lowest (catalogueFaults n g r (λ k. k ≤ length (replicate 1024 d))) 0 = subst (λ (k : ℕ). Lowest (catalogueFaults n g r (λ j. j ≤ length (replicate 1024 d))) k) e (l .catalogues .lowest) in
-    (omega (arith, l .catalogues .fits e, length-replicate 1024 d), λ i lt. record { size = size-of low; r = r; low = low-of low; holds = l .records i lt })
+    (omega (arith, l .catalogues .fits e, length-replicate 1024 d), λ i lt. record { size = bounds low .size; r = r; low = bounds low .low; holds = l .records i lt })
 
 -- within a list, what stands past it plays no part
 getD-within : (xs : List Design) (i : ℕ) (d e : Design) → i < length xs → getD xs i d ≡ getD xs i e

@@ -1,7 +1,6 @@
 // The lines that are printed, made in a lent list of bytes: each function adds its text from a place on and says the place after it.
 ghost use mathlib.Core.Path.{_≡_};
-ghost use mathlib.Core.List.{List, [], _∷_};
-ghost use Prim.Native.Nat.{ℕ, _+_, _*_, _≤_};
+ghost use Prim.Native.Nat.{_+_, _*_, _≤_};
 ghost use lib.ListN.{length, take, drop};
 ghost use Rattle.io.specs.Counts.{Counts};
 ghost use Rattle.plans.specs.Text.{Adds, decimal, next, spaced, headerLine, refused, start, entry, EntryLine};

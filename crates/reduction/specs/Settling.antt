@@ -1,5 +1,5 @@
 -- What is made of an admitted plan, in the terms of its standard columns.
-use Prim.Native.Nat.{ℕ, _-_, _<_}
+use Prim.Native.Nat.{ℕ, _<_}
 use mathlib.Core.Path.{_≡_, refl, sym, _∙_}
 use mathlib.Core.List.{List}
 use native.Mathlib.Omega.{arith}
@@ -9,26 +9,17 @@ use Rattle.regular.specs.Columns.{planOf}
 use Rattle.regular.specs.Designs.{Holds, blank}
 use Rattle.regular.specs.RefusalLaws.{Lower, lower-none}
 use Rattle.regular.specs.Same.{moved, Carries}
-use Rattle.regular.specs.Sizes.{Size}
 use Rattle.regular.specs.Smallest.{Smallest}
 use Rattle.regular.specs.declared.SmallestAnswer.{SmallestAnswer}
-use Rattle.standard.specs.Form.{StandardForm, Plain}
-use Rattle.admission.specs.Admission.{Admission}
+use Rattle.admission.specs.Admission.{Admission, Ready, ready}
 use Rattle.canonical.specs.Forming.{SmallestForm}
-use Rattle.reduction.specs.Lending.{Lending, Lent}
+use Rattle.lent.specs.Lending.{Lending}
+use Rattle.lent.specs.Lends.{Lent}
 use Rattle.isomorphism_laws.specs.Moving.{moved-names, carries-names}
 
--- the standard columns of an accepted plan
-pub record Ready (n g : ℕ) (a : List ℕ) : Type 0 where
-  pub size : Size n g
-  pub form : StandardForm n (n - g) a
-  pub plain : Plain n a
-
--- .. where nothing else is refused
+-- the standard columns of an accepted plan, where nothing else is refused
 pub admission-ready : (fault : ℕ → Type 0) (n g : ℕ) (s : Runs) (own : ℕ) (a : List ℕ) (other x : ℕ) → Admission fault n g s own a → Lower own other x → x ≡ 0 → Ready n g a
-admission-ready fault n g s own a other x ad l z =
-    let e = lower-none own other x l z .0 in
-    record { size = ad .size e; form = ad .standard e .form; plain = ad .plain e }
+admission-ready fault n g s own a other x ad l z = ready ad (lower-none own other x l z .0)
 
 -- the smallest form of the plan of standard columns a, where the call's arguments but the lent list have the number x; `from` is a run that was
 -- switched to 0

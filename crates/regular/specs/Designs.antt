@@ -1,7 +1,9 @@
--- The design record: what it holds, and the plan that it describes (document 01, "Plans in three forms"). Definitions only.
-use Prim.Native.Nat.{ℕ, _≤_, _<_}
+-- The design record: what it holds, and the plan that it describes (document 01, "Plans in three forms").
+use Prim.Native.Nat.{ℕ, _*_, _^_, _≤_, _<_}
 use mathlib.Core.Path.{_≡_}
 use mathlib.Core.List.{List}
+use native.Mathlib.Nat.{le-of-lt, lt-trans, lt-of-le-of-lt, mul-le-mul-right}
+use lib.Dec.{lit<}
 use lib.ListN.{getD, replicate}
 use Rattle.regular.specs.declared.Design.{Design}
 
@@ -15,3 +17,7 @@ pub record Holds (n m : ℕ) (Wanted : List ℕ → Type 0) (d : Design) : Type 
 -- the record of a refused call
 abbrev pub blank : Design
 blank = record { factors = 0; basics = 0; columns = replicate 16 0 }
+
+-- a record takes 18 bytes: the offset of an element within a lent list fits 64 bits
+pub offset-fits : (i n : ℕ) → i < n → n * 18 < 2 ^ 63 → i * 18 < 2 ^ 64
+offset-fits i n l r = lt-of-le-of-lt (mul-le-mul-right 18 (le-of-lt l)) (lt-trans r (lit< tt))

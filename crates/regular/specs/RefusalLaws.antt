@@ -5,7 +5,8 @@ use mathlib.Core.Logic.{_⊎_, inl, inr, ⊎-elim, by-cases}
 use mathlib.Core.List.{List}
 use native.Mathlib.Omega.{arith}
 use native.Mathlib.Decide.{decLt}
-use Rattle.regular.specs.Refusals.{SizeFault, WordsFault, ColumnsFault, ListFault, RecordFault, TableFault, LentFault, either, Lowest, wordsFaults, runsFaults, designFaults, columnsFaults}
+use lib.ListN.{length}
+use Rattle.regular.specs.Refusals.{SizeFault, ResolutionFault, WordsFault, ColumnsFault, ListFault, RecordFault, TableFault, LentFault, either, Lowest, wordsFaults, runsFaults, designFaults, columnsFaults}
 use Rattle.regular.specs.declared.Design.{Design}
 
 pub lowest-unique : (F : ℕ → Type 0) (a b : ℕ) → Lowest F a → Lowest F b → a ≡ b
@@ -63,13 +64,16 @@ pub size-most : (n g k : ℕ) → SizeFault n g k → k ≤ 2
 size-most n g k (SizeFault.factors h) = omega arith
 size-most n g k (SizeFault.generators h) = omega arith
 
+pub resolution-is : (r k : ℕ) → ResolutionFault r k → k ≡ 3
+resolution-is r k (ResolutionFault.outside h) = refl
+
 pub words-least : (n g : ℕ) (ws : List ℕ) (k : ℕ) → WordsFault n g ws k → 4 ≤ k
 words-least n g ws k (WordsFault.count h) = omega arith
 words-least n g ws k (WordsFault.past i l h) = omega arith
 words-least n g ws k (WordsFault.dependent h) = omega arith
 words-least n g ws k (WordsFault.short h) = omega arith
 
-pub words-most : (n g : ℕ) (ws : List ℕ) (k : ℕ) → WordsFault n g ws k → k ≤ 7
+words-most : (n g : ℕ) (ws : List ℕ) (k : ℕ) → WordsFault n g ws k → k ≤ 7
 words-most n g ws k (WordsFault.count h) = omega arith
 words-most n g ws k (WordsFault.past i l h) = omega arith
 words-most n g ws k (WordsFault.dependent h) = omega arith
@@ -80,7 +84,7 @@ columns-least n m c k (ColumnsFault.above f l h) = omega arith
 columns-least n m c k (ColumnsFault.rank h) = omega arith
 columns-least n m c k (ColumnsFault.short h) = omega arith
 
-pub columns-most : (n m : ℕ) (c : List ℕ) (k : ℕ) → ColumnsFault n m c k → k ≤ 7
+columns-most : (n m : ℕ) (c : List ℕ) (k : ℕ) → ColumnsFault n m c k → k ≤ 7
 columns-most n m c k (ColumnsFault.above f l h) = omega arith
 columns-most n m c k (ColumnsFault.rank h) = omega arith
 columns-most n m c k (ColumnsFault.short h) = omega arith
@@ -93,7 +97,7 @@ record-least n m d k (RecordFault.factors h) = omega arith
 record-least n m d k (RecordFault.basics h) = omega arith
 record-least n m d k (RecordFault.used f l p h) = omega arith
 
-pub record-most : (n m : ℕ) (d : Design) (k : ℕ) → RecordFault n m d k → k ≤ 5
+record-most : (n m : ℕ) (d : Design) (k : ℕ) → RecordFault n m d k → k ≤ 5
 record-most n m d k (RecordFault.factors h) = omega arith
 record-most n m d k (RecordFault.basics h) = omega arith
 record-most n m d k (RecordFault.used f l p h) = omega arith
@@ -105,7 +109,7 @@ table-least n m t k (TableFault.repeated h) = omega arith
 table-least n m t k (TableFault.irregular h) = omega arith
 table-least n m t k (TableFault.short h) = omega arith
 
-pub table-most : (n m : ℕ) (t : List ℕ) (k : ℕ) → TableFault n m t k → k ≤ 7
+table-most : (n m : ℕ) (t : List ℕ) (k : ℕ) → TableFault n m t k → k ≤ 7
 table-most n m t k (TableFault.count h) = omega arith
 table-most n m t k (TableFault.past x i h) = omega arith
 table-most n m t k (TableFault.repeated h) = omega arith
@@ -114,6 +118,16 @@ table-most n m t k (TableFault.short h) = omega arith
 
 pub lent-is : (places : ℕ) (out : List ℕ) (k : ℕ) → LentFault places out k → k ≡ 8
 lent-is places out k (LentFault.few h) = refl
+
+-- a lent list that has too few places, or enough
+pub lent-short : (places : ℕ) (out : List ℕ) → length out < places → Lowest (LentFault places out) 8
+lent-short places out h = lowest-at (LentFault places out) 8 (omega arith) (LentFault.few h) (λ k f. omega (arith, lent-is places out k f))
+
+pub lent-fits : (places : ℕ) (out : List ℕ) → places ≤ length out → Lowest (LentFault places out) 0
+lent-fits places out h = lowest-none (LentFault places out) never
+  where
+    never : (k : ℕ) → LentFault places out k → ⊥
+    never k (LentFault.few l) = omega arith
 
 -- a plan's faults are below 8, the number of a lent result
 either-most : (F H : ℕ → Type 0) (most : ℕ) → ((k : ℕ) → F k → k ≤ most) → ((k : ℕ) → H k → k ≤ most) → (k : ℕ) → either F H k → k ≤ most

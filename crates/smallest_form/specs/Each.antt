@@ -10,7 +10,8 @@ use lib.ListN.{length, getD, take, drop, length-append, length-drop, List·getD-
 use lib.Seq.{length-take-le, take-at, drop-at, drop-drop, getD-take, getD-drop, ext-getD}
 use Rattle.regular.specs.Columns.{planOf}
 use Rattle.regular.specs.PlanLists.{HasPlan, planAt, plansFaults, BytesFault}
-use Rattle.regular.specs.Refusals.{SizeFault, Lowest, columnsFaults}
+use Rattle.regular.specs.Refusals.{Lowest, columnsFaults}
+use Rattle.regular.specs.Accepted.{accepted-size}
 use Rattle.regular.specs.RefusalLaws.{lowest-none, none-lowest}
 use Rattle.regular.specs.Same.{Carries}
 use Rattle.regular.specs.Smallest.{Smallest}
@@ -72,13 +73,13 @@ splice-plan n base xs ys fits whole i h =
 -- accepted plans
 module _ (n g : ℕ) (plans : List ℕ) (low : Lowest (plansFaults n g plans) 0) where
   pub plans-some : 1 ≤ n
-  plans-some = by-cases (decLt n 1) (λ h. absurd (none-lowest (plansFaults n g plans) low 1 (inl (SizeFault.factors (inl h))))) (λ h. omega arith)
+  plans-some = accepted-size n g (λ k f. none-lowest (plansFaults n g plans) low k (inl f)) .some
 
-  pub plan-accepted : (i : ℕ) → HasPlan n plans i → Lowest (columnsFaults n g (planAt n plans i)) 0
+  plan-accepted : (i : ℕ) → HasPlan n plans i → Lowest (columnsFaults n g (planAt n plans i)) 0
   plan-accepted i h = lowest-none (columnsFaults n g (planAt n plans i)) (λ k f. none-lowest (plansFaults n g plans) low k (inr (inr (i, (h, f)))))
 
   -- a further plan begins where not all is done
-  pub plan-next : (base count : ℕ) → base ≡ count * n → base < length plans → HasPlan n plans count
+  plan-next : (base count : ℕ) → base ≡ count * n → base < length plans → HasPlan n plans count
   plan-next base count e h = by-cases (decLt (length plans) (suc count * n)) (λ l. absurd (none-lowest (plansFaults n g plans) low 4 (inr (inl (BytesFault.count (never l)))))) (λ l. omega arith)
     where
       never : length plans < suc count * n → (whole : ℕ) → length plans ≡ whole * n → ⊥

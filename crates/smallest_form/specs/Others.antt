@@ -1,5 +1,5 @@
 -- The arguments beside the plan: a list of records, or a list of plans one after another and a lent list.
-use Prim.Native.Nat.{ℕ, _-_, _≤_}
+use Prim.Native.Nat.{ℕ, _≤_}
 use mathlib.Core.Logic.{inl, inr, ⊎-elim}
 use mathlib.Core.List.{List}
 use native.Mathlib.Omega.{arith}
@@ -10,13 +10,13 @@ use Rattle.regular.specs.Refusals.{LentFault, either, Lowest}
 use Rattle.regular.specs.RefusalLaws.{size-most, design-faults-most, columns-faults-most, lent-is}
 use Rattle.regular.specs.declared.Design.{Design}
 use Rattle.plan_lists.specs.Judging.{three-plans}
-use Rattle.reduction.specs.Lending.{Lending, lending-lowest}
+use Rattle.lent.specs.Lending.{Lending, lending-lowest}
 
 pub records-most : (n g : ℕ) (list : List Design) (k : ℕ) → recordsFaults n g list k → k ≤ 8
 records-most n g list k (inl s) = omega (arith, size-most n g k s)
 records-most n g list k (inr (i, (h, f))) = omega (arith, design-faults-most n g (getD list i blank) k f)
 
-pub plans-most : (n g : ℕ) (bytes : List ℕ) (k : ℕ) → plansFaults n g bytes k → k ≤ 8
+plans-most : (n g : ℕ) (bytes : List ℕ) (k : ℕ) → plansFaults n g bytes k → k ≤ 8
 plans-most n g bytes k (inl s) = omega (arith, size-most n g k s)
 plans-most n g bytes k (inr (inl (BytesFault.count h))) = omega arith
 plans-most n g bytes k (inr (inr (i, (h, f)))) = omega (arith, columns-faults-most n g (planAt n bytes i) k f)

@@ -18,7 +18,8 @@ use Rattle.regular.specs.declared.SmallestAnswer.{SmallestAnswer}
 use Rattle.regular.specs.declared.MaskAnswer.{MaskAnswer}
 use Rattle.isomorphism_laws.specs.SamePlan.{carries-agree}
 use Rattle.smallest_laws.specs.Growth.{smallest-equal, plan-equal}
-use Rattle.reduction.specs.Lending.{Lending, Lent, lending-lowest, lending-accepted}
+use Rattle.lent.specs.Lending.{Lending, lending-lowest, lending-accepted}
+use Rattle.lent.specs.Lends.{Lent}
 use Rattle.reduction.specs.Formed.{Formed}
 
 -- what an accepted form says of the other arguments, and of the mask of a plan without switches

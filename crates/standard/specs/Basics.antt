@@ -3,7 +3,7 @@ use mathlib.Core.Path.{_≡_, refl, sym, ap, ap₂, _∙_, subst}
 use mathlib.Core.Logic.{_⊎_, inl, inr, ⊎-elim, by-cases}
 use mathlib.Core.Bool.{Bool, true, false}
 use mathlib.Core.List.{List, [], _∷_}
-use Prim.Native.Nat.{ℕ, zero, suc, _+_, _-_, _*_, _/_, _%_, _^_, _≤_, _<_}
+use Prim.Native.Nat.{ℕ, zero, suc, _+_, _*_, _/_, _%_, _^_, _≤_, _<_}
 use native.Mathlib.Nat.{two-pow-succ, mod-eq-of-lt, mod-lt}
 use native.Mathlib.Numerals.{one-add}
 use native.Mathlib.Omega.{arith}
@@ -33,7 +33,7 @@ fits-all bs (y ∷ u) f k e x (inl p) =
     rw p (eqb-true _ _ (and-both (eqb (bit f y) (odd (coordOf bs y) k)) (fitsAll bs u f k) e .0))
 fits-all bs (y ∷ u) f k e x (inr m) = fits-all bs u f k (and-both (eqb (bit f y) (odd (coordOf bs y) k)) (fitsAll bs u f k) e .1) x m
 
-pub all-fits : (bs u : List ℕ) (f k : ℕ) → Fits bs u f k → fitsAll bs u f k ≡ true
+all-fits : (bs u : List ℕ) (f k : ℕ) → Fits bs u f k → fitsAll bs u f k ≡ true
 unfolding fitsAll
 all-fits bs [] f k h = refl
 all-fits bs (y ∷ u) f k h = rw (eq-eqb _ _ (h y (inl refl))) (all-fits bs u f k (λ x m. h x (inr m)))
@@ -100,7 +100,7 @@ module _ (u : List ℕ) (closed : (x y : ℕ) → In x u → In y u → In (bitX
         (lift (bitXor a b) .1 .1 ∙ xor-mod a b (length bs) ∙ sym (ap₂ bitXor (lift a .1 .1) (lift b .1 .1)) ∙ sym (coord-xor bs (lift a .0) (lift b .0)))
         ∙ bit-xor f (lift a .0) (lift b .0)
 
-    pub some-fits : (k : ℕ) × ((k < 2 ^ length bs) × Fits bs u f k)
+    some-fits : (k : ℕ) × ((k < 2 ^ length bs) × Fits bs u f k)
     unfolding level
     some-fits =
         let k = numberOf (length bs) level in (
@@ -129,7 +129,7 @@ module _ (u : List ℕ) (closed : (x y : ℕ) → In x u → In y u → In (bitX
         let e2 : coordOf bs (bitXor x z) ≡ c = coord-xor bs x z ∙ ap₂ bitXor (o .1 .1) cz ∙ xor-zero-r c in
         (bitXor x z, (closed x z (o .1 .0) mz, ap₂ (λ (a b : ℕ). a * 2 ^ length bs + b) e1 e2)))
 
-    pub onto-more : Onto (f ∷ bs) u
+    onto-more : Onto (f ∷ bs) u
     onto-more j h =
         let l = length bs in
         let g : j < 2 ^ (1 + l) = subst (λ (e : ℕ). j < 2 ^ e) (sym (one-add l)) h in

@@ -2,7 +2,7 @@
 use mathlib.Core.Path.{_≡_, refl, sym, ap, _∙_, subst}
 use mathlib.Core.Logic.{inl}
 use mathlib.Core.List.{List, [], _∷_}
-use Prim.Native.Nat.{ℕ, zero, suc, _+_, _-_, _*_, _%_, _^_, _≤_, _<_}
+use Prim.Native.Nat.{ℕ, zero, suc, _+_, _*_, _%_, _^_, _≤_, _<_}
 use native.Mathlib.Nat.{mod-eq-of-lt}
 use native.Mathlib.Numerals.{one-add}
 use native.Mathlib.Omega.{arith}
@@ -20,7 +20,7 @@ use Rattle.standard.specs.Coordinates.{coord-lt}
 use Rattle.standard.specs.Model.{diffs, coordOf, basicsAt, columnAt, columnsTo, standard}
 use Rattle.standard.specs.Form.{unitsBefore, StandardForm, StandardFor}
 
-pub columns-at : (u : List ℕ) (n f : ℕ) → f < n → getD (columnsTo u n) f 0 ≡ columnAt u f
+columns-at : (u : List ℕ) (n f : ℕ) → f < n → getD (columnsTo u n) f 0 ≡ columnAt u f
 columns-at u n f h = to-at (columnAt u) n f h
 
 -- a run is what its levels say
@@ -44,10 +44,10 @@ module _ (n : ℕ) (u : List ℕ) (s : Space n u) where
   abbrev cols : List ℕ
   cols = columnsTo u n
 
-  pub after-at : (f : ℕ) → f ≤ n → After u (basicsAt u f) f
+  after-at : (f : ℕ) → f ≤ n → After u (basicsAt u f) f
   after-at f h = after-is u (s .closed) (s .zero-in) f
 
-  pub basics-few : (f : ℕ) → f ≤ n → 2 ^ length (basicsAt u f) ≤ length u
+  basics-few : (f : ℕ) → f ≤ n → 2 ^ length (basicsAt u f) ≤ length u
   basics-few f h =
       let bs = basicsAt u f in
       let c = coordOf bs in
@@ -56,14 +56,14 @@ module _ (n : ℕ) (u : List ℕ) (s : Space n u) where
       (λ j m. let o = after-at f h .onto j (upto-lt k j m) in subst (λ (i : ℕ). In i (image c u)) (o .1 .1) (in-image c u (o .0) (o .1 .0))) in
       omega (arith, upto-length k, image-length c u)
 
-  pub run-of-coord : (x : ℕ) → In x u → x ≡ runOf cols n (coordOf (basicsAt u n) x)
+  run-of-coord : (x : ℕ) → In x u → x ≡ runOf cols n (coordOf (basicsAt u n) x)
   run-of-coord x m =
       let a = after-at n (omega arith) in
       sym (mod-eq-of-lt (s .within x m))
       ∙ run-is cols (coordOf (basicsAt u n) x) x n
       (λ g h. a .fits g h .1 x m ∙ ap (odd (coordOf (basicsAt u n) x)) (sym (columns-at u n g h)))
 
-  pub basics-many : length u ≤ 2 ^ length (basicsAt u n)
+  basics-many : length u ≤ 2 ^ length (basicsAt u n)
   basics-many =
       let bs = basicsAt u n in
       let c = coordOf bs in
@@ -73,7 +73,7 @@ module _ (n : ℕ) (u : List ℕ) (s : Space n u) where
       (λ y m. let o = of-image c u y m in upto-in k y (subst (λ (i : ℕ). i < k) (sym (o .1 .1)) (coord-lt bs (o .0)))) in
       omega (arith, upto-length k, image-length c u)
 
-  pub units-at : (f : ℕ) → f ≤ n → unitsBefore cols f ≡ length (basicsAt u f)
+  units-at : (f : ℕ) → f ≤ n → unitsBefore cols f ≡ length (basicsAt u f)
   unfolding unitsBefore
   units-at zero h = omega (arith, after-at zero h .small)
   units-at (suc f) h =
@@ -83,23 +83,23 @@ module _ (n : ℕ) (u : List ℕ) (s : Space n u) where
       rw (e, p) (sym q)
 
   module _ (m : ℕ) (count : length u ≡ 2 ^ m) where
-    pub rank-is : length (basicsAt u n) ≡ m
+    rank-is : length (basicsAt u n) ≡ m
     rank-is =
         let p = pow-le-inv (length (basicsAt u n)) m (omega (arith, basics-few n (omega arith))) in
         let q = pow-le-inv m (length (basicsAt u n)) (omega (arith, basics-many)) in
         omega arith
 
-    pub space-form : StandardForm n m cols
+    space-form : StandardForm n m cols
     space-form =
         record {
           next = λ f h. rw (columns-at u n f h, units-at f (omega arith)) (next-is u (s .closed) f (after-at f (omega arith)) .column-le);
           units = units-at n (omega arith) ∙ rank-is;
         }
 
-    pub space-into : (x : ℕ) → In x u → planOf n m cols x
+    space-into : (x : ℕ) → In x u → planOf n m cols x
     space-into x i = (coordOf (basicsAt u n) x, (subst (λ (b : ℕ). coordOf (basicsAt u n) x < 2 ^ b) rank-is (coord-lt (basicsAt u n) x), run-of-coord x i))
 
-    pub space-onto : (j : ℕ) → j < 2 ^ m → In (runOf cols n j) u
+    space-onto : (j : ℕ) → j < 2 ^ m → In (runOf cols n j) u
     space-onto j h =
         let o = after-at n (omega arith) .onto j (subst (λ (b : ℕ). j < 2 ^ b) (sym rank-is) h) in
         subst (λ (y : ℕ). In y u) (run-of-coord (o .0) (o .1 .0) ∙ ap (runOf cols n) (o .1 .1)) (o .1 .0)
@@ -114,13 +114,13 @@ module _ (n m : ℕ) (t : List ℕ) (tab : Table n m t) where
   head-in = first-in t (omega (arith, tab .count, pow-pos m))
 
   -- a difference and the first run make a run
-  pub back-in : (y : ℕ) → In y (diffs t) → In (bitXor y (getD t 0 0)) t
+  back-in : (y : ℕ) → In y (diffs t) → In (bitXor y (getD t 0 0)) t
   back-in y i =
       let r = getD t 0 0 in
       let o = of-image (λ (x : ℕ). bitXor x r) t y i in
       subst (λ (z : ℕ). In z t) (sym (xor-back (o .0) r) ∙ ap (λ (w : ℕ). bitXor w r) (sym (o .1 .1))) (o .1 .0)
 
-  pub diff-in : (y : ℕ) → In (bitXor y (getD t 0 0)) t → In y (diffs t)
+  diff-in : (y : ℕ) → In (bitXor y (getD t 0 0)) t → In y (diffs t)
   diff-in y i =
       let r = getD t 0 0 in
       subst (λ (z : ℕ). In z (diffs t)) (xor-back y r) (in-image (λ (x : ℕ). bitXor x r) t (bitXor y r) i)

@@ -1,7 +1,7 @@
 -- Standard columns and the definitions of document 01: same plan, words, columns from 1 up.
 use mathlib.Core.Path.{_≡_, refl, sym, ap, _∙_}
 use mathlib.Core.List.{List}
-use Prim.Native.Nat.{ℕ, _-_, _^_, _<_}
+use Prim.Native.Nat.{ℕ, _^_, _<_}
 use lib.Pow.{pow-pos}
 use Rattle.gf2.specs.Digits.{odd}
 use Rattle.gf2.specs.Parity.{odd-zero-l, by-parity, odd-zero-r}

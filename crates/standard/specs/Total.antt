@@ -32,7 +32,7 @@ total-xor c (suc n) s t =
     ap₂ bitXor (total-xor c n s t) (ap (λ (d : ℕ). getD c n 0 * d) (bit-xor n s t) ∙ times-xor (getD c n 0) (bit n s) (bit n t) (omega arith) (omega arith))
     ∙ xor-4 (total c n s) (total c n t) (getD c n 0 * bit n s) (getD c n 0 * bit n t)
 
-pub total-bits : (c : List ℕ) (n s t : ℕ) → ((i : ℕ) → i < n → bit i s ≡ bit i t) → total c n s ≡ total c n t
+total-bits : (c : List ℕ) (n s t : ℕ) → ((i : ℕ) → i < n → bit i s ≡ bit i t) → total c n s ≡ total c n t
 unfolding total
 total-bits c zero s t h = refl
 total-bits c (suc n) s t h = ap₂ (λ (a d : ℕ). bitXor a (getD c n 0 * d)) (total-bits c n s t (λ i l. h i (omega arith))) (h n (omega arith))
@@ -55,7 +55,7 @@ pub total-next : (c : List ℕ) (n d s : ℕ) → d < 2 → s < 2 ^ n → total 
 unfolding total
 total-next c n d s hd h = ap₂ (λ (a e : ℕ). bitXor a (getD c n 0 * e)) (total-low c n d s h) (bit-top n d s hd h)
 
-pub total-wide : (c : List ℕ) (f d s : ℕ) → s < 2 ^ f → total c (d + f) s ≡ total c f s
+total-wide : (c : List ℕ) (f d s : ℕ) → s < 2 ^ f → total c (d + f) s ≡ total c f s
 unfolding total
 total-wide c f zero s h = let e : 0 + f ≡ f = omega arith in ap (λ (n : ℕ). total c n s) e
 total-wide c f (suc d) s h =
@@ -88,7 +88,7 @@ module _ (c : List ℕ) (n : ℕ) where
   span-xor x y p q =
       (bitXor (p .0) (q .0), (xor-lt n (p .0) (q .0) (p .1 .0) (q .1 .0), total-xor c n (p .0) (q .0) ∙ ap₂ bitXor (p .1 .1) (q .1 .1)))
 
-  pub span-times : (x d : ℕ) → d < 2 → InSpan c n x → InSpan c n (x * d)
+  span-times : (x d : ℕ) → d < 2 → InSpan c n x → InSpan c n (x * d)
   span-times x zero h p = let e : 0 ≡ x * 0 = omega arith in subst (InSpan c n) e span-none
   span-times x (suc zero) h p = let e : x ≡ x * 1 = omega arith in subst (InSpan c n) e p
   span-times x (suc (suc d)) h p = absurd (omega arith)

@@ -1,6 +1,6 @@
 -- Columns in standard form: where their units stand, and that they have rank m.
 use mathlib.Core.Path.{_≡_, refl, sym, ap, ap₂, _∙_}
-use mathlib.Core.Logic.{_⊎_, inl, inr, ⊎-elim, by-cases}
+use mathlib.Core.Logic.{inl, inr, ⊎-elim, by-cases}
 use mathlib.Core.Bool.{Bool, true, false}
 use mathlib.Core.List.{List, [], _∷_}
 use Prim.Native.Nat.{ℕ, zero, suc, _+_, _-_, _*_, _%_, _^_, _≤_, _<_}
@@ -70,7 +70,7 @@ unfolding unitsBefore
 units-next a f e = rw (borrow.Author.Tests.eq-eqb (getD a f 0) (2 ^ unitsBefore a f) e)
 
 module _ (n m : ℕ) (a : List ℕ) (s : StandardForm n m a) where
-  pub units-le : (f : ℕ) → f ≤ n → unitsBefore a f ≤ m
+  units-le : (f : ℕ) → f ≤ n → unitsBefore a f ≤ m
   units-le f h =
       let e : (n - f) + f ≡ n = omega arith in
       let g = units-mono a f (n - f) in

@@ -32,7 +32,7 @@ use Rattle.table_forms.specs.Walk.{diffAt, Held, Latest, Alone, Read, Ca
 pub at-diff : (t : List ℕ) (i : ℕ) → i < length t → In (diffAt t i) (diffs t)
 at-diff t i h = in-image (λ (x : ℕ). bitXor x (getD t 0 0)) t (getD t i 0) (place-in t i h)
 
-pub diff-at : (t : List ℕ) (x : ℕ) → In x (diffs t) → (i : ℕ) × ((i < length t) × (x ≡ diffAt t i))
+diff-at : (t : List ℕ) (x : ℕ) → In x (diffs t) → (i : ℕ) × ((i < length t) × (x ≡ diffAt t i))
 diff-at t x m =
     let r = getD t 0 0 in
     let o = of-image (λ (y : ℕ). bitXor y r) t x m in
@@ -40,11 +40,11 @@ diff-at t x m =
     (p .0, (p .1 .0, o .1 .1 ∙ ap (λ (y : ℕ). bitXor y r) (p .1 .1)))
 
 -- the levels that are held are below the next unit
-pub held-lt : (bs t coords : List ℕ) (half : ℕ) → half ≡ 2 ^ length bs → Held bs t coords → (i : ℕ) → i < length t → getD coords i 0 < half
+held-lt : (bs t coords : List ℕ) (half : ℕ) → half ≡ 2 ^ length bs → Held bs t coords → (i : ℕ) → i < length t → getD coords i 0 < half
 held-lt bs t coords half e held i h = omega (arith, held i h, coord-lt bs (diffAt t i))
 
 -- a column that fits every place fits every difference
-pub fits-places : (bs t coords : List ℕ) (f k : ℕ) → Held bs t coords → ((i : ℕ) → i < length t → FitsAt t coords f k i) → Fits bs (diffs t) f k
+fits-places : (bs t coords : List ℕ) (f k : ℕ) → Held bs t coords → ((i : ℕ) → i < length t → FitsAt t coords f k i) → Fits bs (diffs t) f k
 fits-places bs t coords f k held h x m =
     let p = diff-at t x m in
     ap (bit f) (p .1 .1) ∙ h (p .0) (p .1 .0) ∙ ap (λ (c : ℕ). odd c k) (held (p .0) (p .1 .0) ∙ ap (coordOf bs) (sym (p .1 .1)))
@@ -70,7 +70,7 @@ walk-start m t place l =
     }
 
 -- a factor that follows the basic factors
-pub walk-follow : (m : ℕ) (t : List ℕ) (f k : ℕ) (w : Walked) → f < 16 → (s : Walk m t f w) → k < 2 ^ length (s .bs) → Fits (s .bs) (diffs t) f k
+walk-follow : (m : ℕ) (t : List ℕ) (f k : ℕ) (w : Walked) → f < 16 → (s : Walk m t f w) → k < 2 ^ length (s .bs) → Fits (s .bs) (diffs t) f k
     → Walk m t (f + 1) (record { ok = true; columns = set (w .columns) f k; basics = w .basics; half = w .half; coords = w .coords; place = w .place })
 walk-follow m t f k w hf s l fit =
     let a = w .columns in
@@ -93,7 +93,7 @@ walk-follow m t f k w hf s l fit =
     }
 
 -- one more basic factor
-pub walk-grow : (m : ℕ) (t : List ℕ) (f k : ℕ) (w : Walked) (coords place : List ℕ) → f < 16 → (s : Walk m t f w) → k ≡ w .half → length (s .bs) < m
+walk-grow : (m : ℕ) (t : List ℕ) (f k : ℕ) (w : Walked) (coords place : List ℕ) → f < 16 → (s : Walk m t f w) → k ≡ w .half → length (s .bs) < m
     → Extended t (w .coords) coords f (w .half) (length t) → Latest (length t) (length t) coords place
     → ((n : ℕ) → Table n m t → Onto (f ∷ s .bs) (diffs t))
     → Walk m t (f + 1) (record { ok = true; columns = set (w .columns) f k; basics = w .basics + 1; half = w .half + w .half; coords = coords; place = place })
@@ -124,7 +124,7 @@ walk-grow m t f k w coords place hf s ke few x l onto =
     }
 
 -- the candidate is the only column that can fit
-pub fits-only : (bs t coords : List ℕ) (f k i : ℕ) → Held bs t coords → k < 2 ^ length bs → ((j : ℕ) → j < length bs → Read t coords f k j)
+fits-only : (bs t coords : List ℕ) (f k i : ℕ) → Held bs t coords → k < 2 ^ length bs → ((j : ℕ) → j < length bs → Read t coords f k j)
     → i < 2 ^ length bs → Fits bs (diffs t) f i → i ≡ k
 fits-only bs t coords f k i held hk read hi fit =
     bit-ext (length bs) i k hi hk
@@ -135,7 +135,7 @@ fits-only bs t coords f k i held hk read hi fit =
     sym (odd-bit j i) ∙ ap (λ (c : ℕ). odd c i) (sym e) ∙ sym (fit x (at-diff t (r .0) (r .1 .0))) ∙ sym (r .1 .1 .1))
 
 -- where the candidate does not fit, the factor is basic
-pub onto-grown : (n m : ℕ) (t coords : List ℕ) (bs : List ℕ) (f k : ℕ) → Table n m t → Held bs t coords → k < 2 ^ length bs → ((j : ℕ) → j < length bs → Read t coords f k j)
+onto-grown : (n m : ℕ) (t coords : List ℕ) (bs : List ℕ) (f k : ℕ) → Table n m t → Held bs t coords → k < 2 ^ length bs → ((j : ℕ) → j < length bs → Read t coords f k j)
     → (i : ℕ) × ((i < length t) × (FitsAt t coords f k i → ⊥)) → Onto bs (diffs t) → Onto (f ∷ bs) (diffs t)
 onto-grown n m t coords bs f k tab held hk read bad onto =
     onto-next (diffs t) (table-space n m t tab .closed) bs f onto (λ i h. none i h (fitsAll bs (diffs t) f i) refl)
@@ -149,7 +149,7 @@ onto-grown n m t coords bs f k tab held hk read bad onto =
     none i h false e = refl
 
 -- every choice of levels occurs: there are bad more choices than runs
-pub onto-few : (bs u : List ℕ) → Onto bs u → 2 ^ length bs ≤ length u
+onto-few : (bs u : List ℕ) → Onto bs u → 2 ^ length bs ≤ length u
 onto-few bs u onto =
     let c = coordOf bs in
     let k = 2 ^ length bs in
@@ -158,7 +158,7 @@ onto-few bs u onto =
     omega (arith, upto-length k, image-length c u)
 
 -- as many basic factors as there can be: bad more of them
-pub full-refused : (n m : ℕ) (t : List ℕ) (bs : List ℕ) (f : ℕ) → Table n m t → length bs ≡ m → Onto (f ∷ bs) (diffs t) → ⊥
+full-refused : (n m : ℕ) (t : List ℕ) (bs : List ℕ) (f : ℕ) → Table n m t → length bs ≡ m → Onto (f ∷ bs) (diffs t) → ⊥
 full-refused n m t bs f tab e onto =
     let l = onto-few (f ∷ bs) (diffs t) onto in
     let p = two-pow-succ (length bs) in
@@ -166,7 +166,7 @@ full-refused n m t bs f tab e onto =
     omega (arith, diffs-count n m t tab, pow-pos m)
 
 -- a basic factor is low alone in some run
-pub missing-refused : (bs t coords place : List ℕ) (i : ℕ) → Held bs t coords → Latest (length t) (length t) coords place → Onto bs (diffs t) → i < length bs
+missing-refused : (bs t coords place : List ℕ) (i : ℕ) → Held bs t coords → Latest (length t) (length t) coords place → Onto bs (diffs t) → i < length bs
     → (Alone coords i (getD place (2 ^ i) 0) → ⊥) → ⊥
 missing-refused bs t coords place i held l onto h ne =
     let o = onto (2 ^ i) (pow-lt {i = i} {j = length bs} h) in

@@ -60,7 +60,7 @@ module _ (n : ℕ) (t u p : List ℕ) (mask : ℕ) (r : Renaming n p) (different
       moved-once n p r x y (low x a) (low y b) (sym (xor-back (moved p n x) mask) ∙ ap (λ (z : ℕ). bitXor z mask) e ∙ xor-back (moved p n y) mask)
 
   -- as many runs: the partners are all of u
-  pub partners-all : length u ≤ length t → Partnered n t u p mask → (y : ℕ) → In y u → (x : ℕ) × (In x t × (y ≡ reached n p mask x))
+  partners-all : length u ≤ length t → Partnered n t u p mask → (y : ℕ) → In y u → (x : ℕ) × (In x t × (y ≡ reached n p mask x))
   partners-all few into y m =
       let F = reached n p mask in
       of-image F t y (pigeon (image F t) u (image-different F t different reached-once)

@@ -1,37 +1,17 @@
 -- The verdict on a claimed witness between two admitted run tables: yes if the names, the mask and the partners are right, no if one is not.
 use mathlib.Core.Path.{_≡_, subst}
-use mathlib.Core.Logic.{inr, ⊎-elim, by-cases, inl}
+use mathlib.Core.Logic.{by-cases, inl}
 use mathlib.Core.List.{List}
-use Prim.Native.Nat.{ℕ, _-_, _^_, _≤_, _<_}
+use Prim.Native.Nat.{ℕ, _^_, _≤_, _<_}
 use native.Mathlib.Omega.{arith}
-use native.Mathlib.Decide.{ℕ-discrete, decLt}
-use lib.ListN.{length}
-use Rattle.gf2.specs.Members.{Different, different-or-not}
-use Rattle.regular.specs.Runs.{runsOf}
-use Rattle.regular.specs.Same.{Within}
-use Rattle.regular.specs.Refusals.{SizeFault, TableFault, runsFaults, Lowest, either}
+use native.Mathlib.Decide.{ℕ-discrete}
+use Rattle.regular.specs.Refusals.{runsFaults, Lowest, either}
 use Rattle.regular.specs.RefusalLaws.{none-lowest, Lower, lowest-lower, lower-none}
+use Rattle.regular.specs.Accepted.{accepted-size, accepted-table}
 use Rattle.regular.specs.Comparisons.{Witness, Checks}
 use Rattle.regular.specs.declared.Checked.{Checked}
 use Rattle.witness_check.specs.Names.{Named}
 use Rattle.witness_check.specs.Partners.{Partnered, NoPartner, partners-carry}
-
--- what an admitted run table has
-module _ (n g : ℕ) (t : List ℕ) (l : Lowest (runsFaults n g t) 0) where
-  never : (k : ℕ) → TableFault n (n - g) t k → ⊥
-  never k f = none-lowest (runsFaults n g t) l k (inr f)
-
-  pub admitted-count : length t ≡ 2 ^ (n - g)
-  admitted-count = by-cases (ℕ-discrete (length t) (2 ^ (n - g))) (λ e. e) (λ ne. absurd (never 4 (TableFault.count ne)))
-
-  pub admitted-within : Within n (runsOf t)
-  admitted-within x m = by-cases (decLt x (2 ^ n)) (λ h. h) (λ h. absurd (never 5 (TableFault.past x m (omega arith))))
-
-  pub admitted-different : Different t
-  admitted-different = ⊎-elim (λ d. d) (λ d. absurd (never 6 (TableFault.repeated d))) (different-or-not t)
-
-  pub admitted-size : n ≤ 16
-  admitted-size = by-cases (decLt 16 n) (λ h. absurd (none-lowest (runsFaults n g t) l 1 (inl (SizeFault.factors (inr h))))) (λ h. omega arith)
 
 -- a witness has n names, no mask bit past factor n, and leaves no run without a partner
 module _ (n : ℕ) (t u p : List ℕ) (mask : ℕ) where
@@ -60,7 +40,7 @@ module _ (n g : ℕ) (t u p : List ℕ) (mask x y r : ℕ) (a : Lowest (runsFaul
 
   -- sizes in bounds
   pub check-size : r ≡ 0 → n ≤ 16
-  check-size e = admitted-size n g t (first e)
+  check-size e = accepted-size n g (λ k f. none-lowest (runsFaults n g t) (first e) k (inl f)) .most
 
   pub check-refused : (r ≡ 0 → ⊥) → Checks (either (runsFaults n g t) (runsFaults n g u)) (Witness n t u p mask) (Checked.Refused r)
   check-refused h = Checks.refused r (by-cases (ℕ-discrete r 0) (λ e. absurd (h e)) (λ ne. omega arith)) low
@@ -73,6 +53,6 @@ module _ (n g : ℕ) (t u p : List ℕ) (mask x y r : ℕ) (a : Lowest (runsFaul
       Checks.yes (none e)
       (record {
         count = w .count;
-        carries = partners-carry n t u p mask (w .renaming) (admitted-different n g t (first e)) (admitted-within n g t (first e)) h
-            (omega (arith, admitted-count n g t (first e), admitted-count n g u (second e))) into;
+        carries = partners-carry n t u p mask (w .renaming) (accepted-table n g t (first e) .different) (accepted-table n g t (first e) .within) h
+            (omega (arith, accepted-table n g t (first e) .count, accepted-table n g u (second e) .count)) into;
       })

@@ -1,20 +1,19 @@
 // The check of a claimed witness between two run tables.
-ghost use mathlib.Core.Path.{_≡_};
 ghost use mathlib.Core.Bool.{true, false};
 ghost use Prim.Native.Nat.{_^_, _≤_, _<_};
-ghost use lib.Bits.{bitXor};
 ghost use Rattle.gf2.specs.Answers.{Tells};
-ghost use Rattle.regular.specs.Same.{moved};
 ghost use Rattle.regular.specs.Refusals.{runsFaults, either};
 ghost use Rattle.regular.specs.Comparisons.{Witness, Checks};
 ghost use Rattle.witness_check.specs.Names.{Named};
 ghost use Rattle.witness_check.specs.Partners.{Partnered, NoPartner};
+use admission::array_of;
 use admission::lower_of;
 use bits::level;
 use bits::power;
 use bits::wide;
 use bits::wide_byte;
 use regular::Checked;
+use renaming::renamed;
 
 // Whether there are n names, each of the n factors being used once.
 fn each_once(n: usize, names: &[u8]) -> bool
@@ -40,32 +39,18 @@ fn each_once(n: usize, names: &[u8]) -> bool
     true
 }
 
-// The run x with the level of each factor moved to its new name.
-fn renamed(n: usize, names: &[u8], x: u16) -> u16
-    requires { ⌜ (n ≤ 16) × Named n (now names) ⌝ }
-    ensures { λ r. ⌜ r ≡ moved (now (names .entry)) n x ⌝ }
-{
-    let mut y: u16 = 0;
-    let mut f = 0;
-    while f < n {
-        let name = wide_byte(names[f]);
-        y = y + (level(x, f) << name);
-        f += 1;
-    }
-    y
-}
-
 // Whether every run of the first table, renamed and switched, is a run of the second. The first run without a partner there ends both loops.
 fn partnered(n: usize, first: &[u16], second: &[u16], names: &[u8], mask: u16) -> bool
     requires { ⌜ (n ≤ 16) × Named n (now names) ⌝ }
     ensures { λ r. ⌜ Tells r (Partnered n (now (first .entry)) (now (second .entry)) (now (names .entry)) mask)
         (NoPartner n (now (first .entry)) (now (second .entry)) (now (names .entry)) mask) ⌝ }
 {
+    let all = array_of(names);
     let mut answer = true;
     let mut i = 0;
     'runs: while i < first.len() {
         let x = first[i];
-        let y = renamed(n, names, x) ^ mask;
+        let y = renamed(n, all, x) ^ mask;
         let mut j = 0;
         loop {
             if second.len() <= j {

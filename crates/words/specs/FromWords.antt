@@ -1,6 +1,6 @@
 -- The columns read off the pivot words are the standard columns of the plan that the words generate.
 use mathlib.Core.Path.{_≡_, refl, sym, ap, ap₂, _∙_, subst}
-use mathlib.Core.Logic.{_⊎_, inl, ⊎-elim, by-cases}
+use mathlib.Core.Logic.{inl, ⊎-elim, by-cases}
 use mathlib.Core.Bool.{Bool, true, false}
 use mathlib.Core.List.{List, [], _∷_}
 use Prim.Native.Nat.{ℕ, zero, suc, _+_, _-_, _*_, _/_, _%_, _^_, _≤_, _<_}
@@ -29,7 +29,7 @@ use Rattle.words.specs.Model.{freeBefore, freeAt, wordColumns, pivotsAt,
 use Rattle.words.specs.Pivots.{last-bit, last-lt, Lasts, eliminates}
 
 -- the columns as a list
-pub wc-length : (piv : List ℕ) (n : ℕ) → length (wordColumns piv n) ≡ n
+wc-length : (piv : List ℕ) (n : ℕ) → length (wordColumns piv n) ≡ n
 unfolding wordColumns
 wc-length piv zero = refl
 wc-length piv (suc n) = length-append (wordColumns piv n) _ ∙ omega (arith, wc-length piv n)
@@ -114,7 +114,7 @@ module _ (n : ℕ) (piv : List ℕ) (lasts : Lasts n piv) where
       (λ z. rw (e, eq-eqb (getD a f 0) (2 ^ freeBefore piv f) (col-free f h z)) (sym (free-next f z)))
       (λ z. rw (e, ne-eqb (getD a f 0) (2 ^ freeBefore piv f) (λ q. omega (arith, pivot-lt f h z))) (omega (arith, free-stay f z)))
 
-  pub words-form : StandardForm n (freeBefore piv n) a
+  words-form : StandardForm n (freeBefore piv n) a
   words-form =
       record {
         next = λ f h. rw (units-is f (omega arith)) (by-cases (ℕ-discrete (getD piv f 0) 0) (λ z. omega (arith, col-free f h z)) (λ z. omega (arith, pivot-lt f h z)));
@@ -137,7 +137,7 @@ module _ (n : ℕ) (piv : List ℕ) (lasts : Lasts n piv) where
       ∙ ap (bitXor (total a f s)) (o ∙ col-pivot f h z ∙ ap (total a f) e ∙ total-low a f 1 s sl) ∙ xor-self (total a f s))
 
   -- every pivot word is even in a run of the columns
-  pub run-even : (j f : ℕ) → f < n → odd (runOf a n j) (getD piv f 0) ≡ 0
+  run-even : (j f : ℕ) → f < n → odd (runOf a n j) (getD piv f 0) ≡ 0
   run-even j f h = sym (odd-total a n j (getD piv f 0)) ∙ ap (odd j) (pivot-cancels f h) ∙ odd-zero-r j
 
   -- a run in which every pivot word is even: its levels are those of the columns

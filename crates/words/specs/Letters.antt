@@ -15,7 +15,7 @@ use Rattle.standard.specs.Total.{total-xor, total-none}
 use Rattle.words.specs.Pivots.{last-lt}
 
 -- a word has one last letter
-pub last-ge : (f w : ℕ) → Last f w → 2 ^ f ≤ w
+last-ge : (f w : ℕ) → Last f w → 2 ^ f ≤ w
 last-ge f w e =
     let p : w ≡ 1 * 2 ^ f + w % 2 ^ f = sym (split w f) ∙ ap (λ (d : ℕ). d * 2 ^ f + w % 2 ^ f) e in
     omega arith

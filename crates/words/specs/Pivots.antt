@@ -3,7 +3,7 @@ use mathlib.Core.Path.{_≡_, refl, sym, ap, ap₂, _∙_, subst}
 use mathlib.Core.Logic.{_≢_, _⊎_, inl, inr, ⊎-elim, by-cases}
 use mathlib.Core.Bool.{Bool, true, false}
 use mathlib.Core.List.{List}
-use Prim.Native.Nat.{ℕ, zero, suc, _+_, _-_, _*_, _/_, _%_, _^_, _≤_, _<_}
+use Prim.Native.Nat.{ℕ, zero, suc, _+_, _*_, _/_, _%_, _^_, _≤_, _<_}
 use native.Mathlib.Nat.{two-pow-succ, mod-lt}
 use native.Mathlib.Numerals.{one-add}
 use native.Mathlib.Omega.{arith}
@@ -33,7 +33,7 @@ last-lt f x e =
 abbrev pub Lasts : ℕ → List ℕ → Type 0
 Lasts n piv = (f : ℕ) → f < n → (getD piv f 0 ≡ 0) ⊎ (getD piv f 0 / 2 ^ f ≡ 1)
 
-pub lasts-lt : (n : ℕ) (piv : List ℕ) → Lasts n piv → (f : ℕ) → f < n → getD piv f 0 < 2 ^ suc f
+lasts-lt : (n : ℕ) (piv : List ℕ) → Lasts n piv → (f : ℕ) → f < n → getD piv f 0 < 2 ^ suc f
 lasts-lt n piv h f l = ⊎-elim (λ e. omega (arith, pow-pos (suc f))) (λ e. last-lt f (getD piv f 0) e) (h f l)
 
 times-lt : (x d m : ℕ) → d < 2 → x < m → x * d < m
@@ -41,7 +41,7 @@ times-lt x zero m h l = omega arith
 times-lt x (suc zero) m h l = omega arith
 times-lt x (suc (suc d)) m h l = absurd (omega arith)
 
-pub sum-lt : (n : ℕ) (piv : List ℕ) → Lasts n piv → (s : ℕ) → total piv n s < 2 ^ n
+sum-lt : (n : ℕ) (piv : List ℕ) → Lasts n piv → (s : ℕ) → total piv n s < 2 ^ n
 unfolding total
 sum-lt zero piv h s = omega arith
 sum-lt (suc n) piv h s =
@@ -50,7 +50,7 @@ sum-lt (suc n) piv h s =
     (times-lt (getD piv n 0) (bit n s) (2 ^ suc n) (omega arith) (lasts-lt (suc n) piv h n (omega arith)))
 
 -- a sum that has no pivot's last letter is 0
-pub sum-none : (n : ℕ) (piv : List ℕ) (s : ℕ) → Lasts n piv → ((f : ℕ) → f < n → getD piv f 0 / 2 ^ f ≡ 1 → bit f (total piv n s) ≡ 0) → total piv n s ≡ 0
+sum-none : (n : ℕ) (piv : List ℕ) (s : ℕ) → Lasts n piv → ((f : ℕ) → f < n → getD piv f 0 / 2 ^ f ≡ 1 → bit f (total piv n s) ≡ 0) → total piv n s ≡ 0
 unfolding total
 sum-none zero piv s h z = refl
 sum-none (suc n) piv s h z =
@@ -135,7 +135,7 @@ free-same piv b zero h = refl
 free-same piv b (suc n) h = ap₂ (λ (k x : ℕ). k + pick (eqb x 0) 1 0) (free-same piv b n (λ f l. h f (omega arith))) (h n (omega arith))
 
 -- a place that was 0 is 0 no more
-pub free-less : (piv b : List ℕ) (p n : ℕ) → p < n → getD piv p 0 ≡ 0 → (getD b p 0 ≡ 0 → ⊥) → ((f : ℕ) → f < n → f ≢ p → getD piv f 0 ≡ getD b f 0) → freeBefore piv n ≡ freeBefore b n + 1
+free-less : (piv b : List ℕ) (p n : ℕ) → p < n → getD piv p 0 ≡ 0 → (getD b p 0 ≡ 0 → ⊥) → ((f : ℕ) → f < n → f ≢ p → getD piv f 0 ≡ getD b f 0) → freeBefore piv n ≡ freeBefore b n + 1
 unfolding freeBefore
 free-less piv b p zero h z nz s = absurd (omega arith)
 free-less piv b p (suc n) h z nz s =

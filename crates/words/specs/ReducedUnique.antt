@@ -41,7 +41,7 @@ module _ (g : ℕ) (R : ℕ → ℕ → Type 0) (some : (i : ℕ) → i < g → 
       let q = some (suc i) (omega arith) in
       omega (arith, stays d (suc i) (q .0) (omega arith) (q .1 .0) (q .1 .1), rising i (suc i) j (q .0) (omega arith) (omega arith) l (q .1 .0) r (q .1 .1))
 
-  pub rising-is : (i : ℕ) → i < g → R i i
+  rising-is : (i : ℕ) → i < g → R i i
   rising-is i h =
       let q = some i h in
       let j = q .0 in
@@ -53,7 +53,7 @@ module _ (g : ℕ) (R : ℕ → ℕ → Type 0) (some : (i : ℕ) → i < g → 
 abbrev pub LastOf : ℕ → ℕ → Type 0
 LastOf n w = (f : ℕ) × ((f < n) × Last f w)
 
-pub word-has-last : (n : ℕ) (s : Runs) (w : ℕ) → Word n s w → LastOf n w
+word-has-last : (n : ℕ) (s : Runs) (w : ℕ) → Word n s w → LastOf n w
 word-has-last n s w p = let r = last-is n w (p .within) (λ e. omega (arith, p .some)) in (lastOf n w, r)
 
 -- sums of words by rising last letter: the last letter of the last word taken
@@ -64,7 +64,7 @@ module _ (n g : ℕ) (s : Runs) (ws : List ℕ) (word : (i : ℕ) → i < g → 
       let r = word-has-last n s (getD ws j 0) (word j (omega arith)) in
       omega (arith, last-lt (r .0) (getD ws j 0) (r .1 .1), pow-mono {i = suc (r .0)} {j = e} (rising j i (r .0) e l h (r .1 .1) p))
 
-  pub sum-last : (t i e : ℕ) → i < g → Last i t → Last e (getD ws i 0) → Last e (total ws g t)
+  sum-last : (t i e : ℕ) → i < g → Last i t → Last e (getD ws i 0) → Last e (total ws g t)
   sum-last t i e h q p =
       let x = getD ws i 0 in
       let r = t % 2 ^ i in
@@ -82,7 +82,7 @@ module _ (n g : ℕ) (s : Runs) (ws : List ℕ) (word : (i : ℕ) → i < g → 
 
 -- the last letter of every word is that of a generator
 module _ (n g : ℕ) (s : Runs) (ws : List ℕ) (gen : Generators n g s ws) (red : Reduced n g s ws) where
-  pub last-among : (w f : ℕ) → Word n s w → Last f w → (i : ℕ) × ((i < g) × Last f (getD ws i 0))
+  last-among : (w f : ℕ) → Word n s w → Last f w → (i : ℕ) × ((i < g) × Last f (getD ws i 0))
   last-among w f p q =
       let c = gen .all w p in
       let t = c .0 in
@@ -150,7 +150,7 @@ module _ (n g : ℕ) (s : Runs) (ws vs : List ℕ) (same : (i : ℕ) → i < g �
   to-ws : (i f : ℕ) → i < g → Last f (getD vs i 0) → Last f (getD ws i 0)
   to-ws i f h p = subst (λ (x : ℕ). Last f x) (sym (same i h)) p
 
-  pub reduced-same : Reduced n g s ws → Reduced n g s vs
+  reduced-same : Reduced n g s ws → Reduced n g s vs
   reduced-same r = record {
     word = λ i h. subst (λ (x : ℕ). Word n s x) (same i h) (r .word i h);
     plan = record {
@@ -161,7 +161,7 @@ module _ (n g : ℕ) (s : Runs) (ws vs : List ℕ) (same : (i : ℕ) → i < g �
     apart = λ i j f h l ne p. ap (λ (x : ℕ). bit f x) (sym (same i h)) ∙ r .apart i j f h l ne (to-ws j f l p);
   }
 
-  pub generators-same : Generators n g s ws → Generators n g s vs
+  generators-same : Generators n g s ws → Generators n g s vs
   generators-same r =
       let e : (t : ℕ) → total ws g t ≡ total vs g t = λ t. total-cols ws vs g t same in
       record {

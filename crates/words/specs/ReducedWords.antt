@@ -32,7 +32,7 @@ use Rattle.words.specs.Letters.{last-unique, letter-one, total-cancels}
 use Rattle.words.specs.WordList.{isUnit, othersTo, wordsTo, WordsListed, listed, word-letters}
 
 -- a word of a plan is a word of any part of it
-pub word-same : (n : ℕ) (s t : Runs) (w : ℕ) → ((x : ℕ) → t x → s x) → Word n s w → Word n t w
+word-same : (n : ℕ) (s t : Runs) (w : ℕ) → ((x : ℕ) → t x → s x) → Word n s w → Word n t w
 word-same n s t w h p = record { some = p .some; within = p .within; constant = λ x y a b. p .constant x y (h x a) (h y b) }
 
 module _ (n m : ℕ) (s : Runs) (a : List ℕ) (st : StandardFor n m s a) where

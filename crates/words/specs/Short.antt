@@ -72,7 +72,7 @@ module _ (n m : ℕ) (c : List ℕ) where
 
 -- columns with the runs of s
 module _ (n m : ℕ) (s : Runs) (c : List ℕ) (a : Agree s (planOf n m c)) where
-  pub plain-no-short : Below n m c → Plain n c → NoShort n 3 s
+  plain-no-short : Below n m c → Plain n c → NoShort n 3 s
   plain-no-short b p w h = plain-words n m c b p w (word-agree n s (planOf n m c) a w h)
 
   pub repeat-gives-short : Repeat n c → Short n 3 s

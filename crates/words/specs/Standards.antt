@@ -10,12 +10,10 @@ use lib.Bits.{bitXor}
 use lib.ListN.{getD}
 use Rattle.gf2.specs.Counts.{Count, count-unique, count-same}
 use Rattle.gf2.specs.DigitLaws.{xor-none}
-use Rattle.regular.specs.Columns.{Basic, StandardColumns, Spans, planOf}
+use Rattle.regular.specs.Columns.{Basic, StandardColumns, planOf}
 use Rattle.regular.specs.Runs.{Runs}
 use Rattle.regular.specs.Words.{total}
 use Rattle.standard.specs.Form.{unitsBefore, StandardForm, StandardFor}
-use Rattle.standard.specs.FromColumns.{spans-apart, columns-standard}
-use Rattle.standard.specs.Model.{standard, runTable}
 use Rattle.standard.specs.Plans.{word-cancels}
 use Rattle.standard.specs.Runs.{run-cols}
 use Rattle.standard.specs.Total.{total-cols, total-more, total-unit, total-xor}
@@ -126,14 +124,6 @@ form-cols n m a c s e =
           omega (arith, e f h, s .next f h);
       units = sym (units-same a c n e) ∙ s .units;
     }
-
--- standard columns of rank m have standard form
-pub standard-form : (n m : ℕ) (s : Runs) (c : List ℕ) → StandardColumns n m s c → Spans n m c → StandardFor n m s c
-standard-form n m s c sc sp =
-    let a = standard (runTable n m c) n in
-    let st = columns-standard n m c (spans-apart n m c sp) in
-    let sa : StandardFor n m s a = record { form = st .form; plan = agree-trans s (planOf n m c) (planOf n m a) (sc .plan) (st .plan) } in
-    record { form = form-cols n m a c (st .form) (standard-columns-unique n m s a c sa sc); plan = sc .plan }
 
 -- equal columns are as good
 pub standard-cols : (n m : ℕ) (s : Runs) (a c : List ℕ) → StandardFor n m s a → ((f : ℕ) → f < n → getD a f 0 ≡ getD c f 0) → StandardFor n m s c

@@ -3,7 +3,6 @@
 use mathlib.Core.Path.{_≡_, sym, ap, subst, _∙_}
 use mathlib.Core.List.{List}
 use Prim.Native.Nat.{ℕ}
-use native.Mathlib.Omega.{arith}
 use lib.Bits.{bitXor, xor-zero-r}
 use lib.Count.{ones}
 use lib.ListN.{getD}
@@ -29,14 +28,14 @@ module _ (n : ℕ) (s t : Runs) (into : WordsOf n s t) (onto : WordsOf n t s) wh
             (λ w h. (into w (h .0), h .1)) (λ w h. (onto w (h .0), h .1)) (c .counts l low high);
       }
 
-  pub words-resolution : (k : ℕ) → Resolution n s k → Resolution n t k
+  words-resolution : (k : ℕ) → Resolution n s k → Resolution n t k
   words-resolution k (Resolution.full h) = Resolution.full (λ w p. h w (onto w p))
   words-resolution k (Resolution.shortest w p h) = Resolution.shortest w (into w p) (λ v q. h v (onto v q))
 
-pub words-short : (n r : ℕ) (s t : Runs) → WordsOf n s t → Short n r s → Short n r t
+words-short : (n r : ℕ) (s t : Runs) → WordsOf n s t → Short n r s → Short n r t
 words-short n r s t into h = record { word = h .word; is = into (h .word) (h .is); few = h .few }
 
-pub words-no-short : (n r : ℕ) (s t : Runs) → WordsOf n t s → NoShort n r s → NoShort n r t
+words-no-short : (n r : ℕ) (s t : Runs) → WordsOf n t s → NoShort n r s → NoShort n r t
 words-no-short n r s t onto h w p = h w (onto w p)
 
 -- the same runs

@@ -64,7 +64,7 @@ module _ (n m : ℕ) (a : List ℕ) (s : StandardForm n m a) where
   word-some : (f : ℕ) → wordAt a f ≡ 0 → ⊥
   word-some f e = omega (arith, word-sum f, pow-pos f)
 
-  pub words-lasts : Lasts n piv
+  words-lasts : Lasts n piv
   words-lasts f h =
       by-cases (ℕ-discrete (getD a f 0) (2 ^ unitsBefore a f))
       (λ e. inl (piv-basic f h e))
@@ -98,7 +98,7 @@ module _ (n m : ℕ) (a : List ℕ) (s : StandardForm n m a) where
       by-cases (ℕ-discrete g f) (λ e. rw e here) (λ ne. ih g (omega arith))
 
   -- words and back: the same standard columns
-  pub columns-words-columns : (f : ℕ) → f < n → getD (wordColumns (wordsOf a n) n) f 0 ≡ getD a f 0
+  columns-words-columns : (f : ℕ) → f < n → getD (wordColumns (wordsOf a n) n) f 0 ≡ getD a f 0
   columns-words-columns f h = same-to n (omega arith) f h
 
   -- a run that meets every word evenly is one of the plan

@@ -1,12 +1,12 @@
 -- `admission::admit_array` meets its contract: 5, 6 and 7 are met in this order. Assumes nothing.
 use borrow.Author.Tests.{not-true, not-false}
 use Rattle.regular.specs.Columns.{Below, planOf}
-use Prim.Native.Nat.{_-_}
 use native.Mathlib.Omega.{arith}
 use borrow.Author.Needs.{needs}
 use Rattle.admission.proofs.admit_array.Statement.{statement}
 use Rattle.admission.proofs.admit_array.Tie as tie
-use Rattle.admission.specs.Admitting.{array-answered, columns-0, columns-5, columns-6, columns-7}
+use Rattle.admission.specs.Faults.{columns-0, columns-5, columns-6, columns-7}
+use Rattle.admission.specs.Admitting.{array-answered}
 use Rattle.standard.specs.Units.{standard-below}
 use lib.Pow.{pow-mono}
 use Rattle.words.specs.Short.{plain-long, repeat-short}

@@ -3,7 +3,9 @@ use native.Mathlib.Omega.{arith}
 use borrow.Author.Needs.{needs}
 use Rattle.admission.proofs.admit_columns.Statement.{statement}
 use Rattle.admission.proofs.admit_columns.Tie as tie
-use Rattle.admission.specs.Admitting.{answered, array-admission, list-0, size-refusal, plan-refusal, size-0, list-4}
+use Rattle.regular.specs.Accepted.{size-accepted}
+use Rattle.admission.specs.Faults.{list-0, list-4}
+use Rattle.admission.specs.Admitting.{answered, array-admission, size-refusal, plan-refusal}
 use Rattle.regular.specs.Refusals.{columnsFaults, ListFault, either, ColumnsFault}
 use Rattle.regular.specs.Columns.{planOf}
 use Prim.Native.Nat.{_-_}
@@ -37,7 +39,7 @@ returns-2 c =
     let u = c .before .if2 .taken in
     let z = q .ensures .1 t in
     answered (columnsFaults (a .n) (a .g) (a .list .now)) (a .n) (a .g) (planOf (a .n) (a .n - a .g) (a .list .now)) 4 (c .refused2 .result) (c .refused2 .ensures)
-    (plan-refusal (either (ListFault (a .n) (a .list .now)) (ColumnsFault (a .n) (a .n - a .g) (a .list .now))) (a .n) (a .g) (planOf (a .n) (a .n - a .g) (a .list .now)) 4 (omega arith) (size-0 (a .n) (a .g) z)
+    (plan-refusal (either (ListFault (a .n) (a .list .now)) (ColumnsFault (a .n) (a .n - a .g) (a .list .now))) (a .n) (a .g) (planOf (a .n) (a .n - a .g) (a .list .now)) 4 (omega arith) (size-accepted (a .n) (a .g) z)
     (lowest-first (ListFault (a .n) (a .list .now)) (ColumnsFault (a .n) (a .n - a .g) (a .list .now)) 4 (omega arith) (list-4 (a .n) (a .list .now) u) (λ k f. omega (arith, columns-least (a .n) (a .n - a .g) (a .list .now) k f))))
 
 sub-admit-array : tie.Need-sub-admit-array

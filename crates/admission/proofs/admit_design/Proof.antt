@@ -3,7 +3,8 @@ use native.Mathlib.Omega.{arith}
 use borrow.Author.Needs.{needs}
 use Rattle.admission.proofs.admit_design.Statement.{statement}
 use Rattle.admission.proofs.admit_design.Tie as tie
-use Rattle.admission.specs.Admitting.{answered, array-admission, size-refusal, record-0, record-4, record-5, plan-answered}
+use Rattle.admission.specs.Faults.{record-0, record-4, record-5}
+use Rattle.admission.specs.Admitting.{answered, array-admission, size-refusal, plan-answered}
 use borrow.Author.Tests.{not-true, not-false}
 use Rattle.regular.specs.Refusals.{designFaults, RecordFault, either, ColumnsFault, Lowest}
 use Rattle.regular.specs.Columns.{planOf}

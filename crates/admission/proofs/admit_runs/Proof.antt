@@ -5,7 +5,8 @@ use mathlib.Core.List.{List}
 use borrow.Author.Needs.{needs}
 use Rattle.admission.proofs.admit_runs.Statement.{statement}
 use Rattle.admission.proofs.admit_runs.Tie as tie
-use Rattle.admission.specs.Admitting.{answered, size-refusal, accepted, table-0, table-4, table-5, table-6, table-7, plan-answered}
+use Rattle.admission.specs.Faults.{table-0, table-4, table-5, table-6, table-7}
+use Rattle.admission.specs.Admitting.{answered, size-refusal, accepted, plan-answered}
 use lib.ListN.{length, getD}
 use borrow.Author.Tests.{not-false, not-true}
 use Rattle.regular.specs.Refusals.{runsFaults, TableFault}

@@ -7,7 +7,8 @@ use native.Mathlib.Omega.{arith}
 use borrow.Author.Needs.{needs}
 use Rattle.admission.proofs.admit_words.Statement.{statement}
 use Rattle.admission.proofs.admit_words.Tie as tie
-use Rattle.admission.specs.Admitting.{answered, size-refusal, accepted, words-0, words-4, words-5, words-6, words-7, plan-answered}
+use Rattle.admission.specs.Faults.{words-0, words-4, words-5, words-6, words-7}
+use Rattle.admission.specs.Admitting.{answered, size-refusal, accepted, plan-answered}
 use lib.ListN.{length, getD}
 use Rattle.regular.specs.Refusals.{wordsFaults, WordsFault}
 use Rattle.standard.specs.Form.{Found}

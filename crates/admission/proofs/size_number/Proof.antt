@@ -2,7 +2,8 @@
 use native.Mathlib.Omega.{arith}
 use mathlib.Core.Logic.{inl, inr}
 use Rattle.regular.specs.Sizes.{Size}
-use Rattle.admission.specs.Admitting.{size-0, size-1, size-2}
+use Rattle.regular.specs.Accepted.{size-accepted}
+use Rattle.admission.specs.Faults.{size-1, size-2}
 use borrow.Author.Needs.{needs}
 use Rattle.admission.proofs.size_number.Statement.{statement}
 use Rattle.admission.proofs.size_number.Tie as tie
@@ -34,7 +35,7 @@ returns-5 : tie.Need-returns-5
 returns-5 c =
     let a = c .before .before .before .before .args in
     let z : Size (a .n) (a .g) = record { some = omega arith; most = omega arith; less = omega arith; few = omega arith } in
-    (size-0 (a .n) (a .g) z, (λ _. z))
+    (size-accepted (a .n) (a .g) z, (λ _. z))
 
 pub size-number-spec : {M : Type 1} → statement M
 size-number-spec = tie.close (tie.spec returns returns-2 returns-3 sub-if4 returns-4 returns-5)

@@ -5,8 +5,8 @@
 use mathlib.Core.Path.{_≡_, refl, sym, _∙_, ap, subst}
 use mathlib.Core.Bool.{Bool, true, false}
 use mathlib.Core.WellFounded.{WellFounded, InvImage·wf}
-use Prim.Native.Nat.{ℕ, _+_, _-_, _*_, _≤_, _<_, _^_, zero-le}
-use native.Mathlib.Nat.{lt-trans, lt-of-le-of-lt, mul-le-mul-right, le-of-lt, le-antisymm}
+use Prim.Native.Nat.{ℕ, _+_, _-_, _≤_, _<_, _^_, zero-le}
+use native.Mathlib.Nat.{lt-of-le-of-lt, le-antisymm}
 use native.Mathlib.Numerals.{add-one-le, add-one-dec}
 use mathlib.Core.List.{[], _∷_, List}
 use lib.Dec.{ltb, lit<}
@@ -55,7 +55,7 @@ use denote.Exit.{yes}
 use borrow.Author.Tests.{ltb-true, ltb-false}
 use Rattle.regular.specs.declared.Design.{Design}
 use Rattle.regular.specs.declared.BookAnswer.{BookAnswer}
-use Rattle.regular.specs.Designs.{blank}
+use Rattle.regular.specs.Designs.{blank, offset-fits}
 use Rattle.regular.specs.Refusals.{Lowest, designFaults}
 use Rattle.regular.specs.PlanLists.{wantedRecordsFaults}
 use Rattle.regular.specs.Book.{WritesDesigns}
@@ -85,10 +85,6 @@ use Rattle.book.proofs.write_book_of_designs.Code.Mir as m
 
 abbrev stayed : Stays (f.ended .signature .params) (f.ended .kept)
 stayed = (stay-none (λ _. usize) yes, (stay-none (λ _. usize) yes, (stay-none (λ _. usize) yes, (stay-none-slice (0 ∷ []) tt (plain (λ _. T.the-row)) yes, (stay-slice (1 ∷ []) tt (plain (λ _. u8)), tt)))))
-
--- the byte offset of an element within the list fits a usize
-offset-fits : (i n : ℕ) → i < n → n * 18 < 2 ^ 63 → i * 18 < 2 ^ 64
-offset-fits i n l r = lt-of-le-of-lt (mul-le-mul-right 18 (le-of-lt l)) (lt-trans r (lit< tt))
 
 abbrev word : Ty
 word = tyInt w64

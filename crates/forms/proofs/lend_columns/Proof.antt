@@ -4,14 +4,14 @@ use borrow.Author.Needs.{needs}
 use Rattle.forms.proofs.lend_columns.Statement.{statement}
 use Rattle.forms.proofs.lend_columns.Tie as tie
 use Rattle.lent.specs.Lends.{lends-refused, Lends}
-use Rattle.forms.specs.Made.{ColumnsAt}
+use Rattle.regular.specs.Smallest.{Equal}
 use Prim.Native.Nat.{ℕ}
 
 returns : tie.Need-returns
 returns c =
     let a = c .before .before .args in
     let t = c .if1 .taken in
-    lends-refused (a .plan .number) (a .n) (ColumnsAt (a .n) (a .plan .columns)) (a .out .now) t
+    lends-refused (a .plan .number) (a .n) (λ zs. Equal (a .n) zs (a .plan .columns)) (a .out .now) t
 
 lend-first-requires : tie.Need-lend-first-requires
 lend-first-requires c κs =
@@ -27,7 +27,7 @@ returns-2 c =
     let a = c .before .before .before .before .before .before .before .args in
     let l = c .before .before .lend-first in
     let t = c .before .before .before .before .before .if1 .left in
-    subst (λ (k : ℕ). Lends k (a .n) (ColumnsAt (a .n) (a .plan .columns)) (a .out .now) (l .last .1 .1 .0) (l .result)) (sym t) (l .ensures)
+    subst (λ (k : ℕ). Lends k (a .n) (λ zs. Equal (a .n) zs (a .plan .columns)) (a .out .now) (l .last .1 .1 .0) (l .result)) (sym t) (l .ensures)
 
 pub lend-columns-spec : {M : Type 1} → statement M
 lend-columns-spec = tie.close (tie.spec returns lend-first-requires same-length returns-2)

@@ -1,5 +1,5 @@
 -- `lookup::first_columns` meets its contract: the plans before base are others; the measure is what is left of the list. Assumes nothing.
-use Prim.Native.Nat.{_+_, _-_, _≤_, _<_}
+use Prim.Native.Nat.{_+_, _-_, _≤_}
 use native.Mathlib.Omega.{arith}
 use lib.ListN.{length}
 use Rattle.lookup.specs.Passing.{Passed, passed-none, passed-more, passed-found, passed-all}

@@ -4,8 +4,8 @@
 use mathlib.Core.Path.{_≡_, refl, sym, ap}
 use mathlib.Core.Bool.{Bool, true, false}
 use mathlib.Core.WellFounded.{WellFounded, InvImage·wf}
-use Prim.Native.Nat.{ℕ, _+_, _-_, _*_, _≤_, _<_, _^_, zero-le}
-use native.Mathlib.Nat.{lt-trans, lt-of-le-of-lt, lt-of-lt-of-le, mul-le-mul-right, le-of-lt}
+use Prim.Native.Nat.{ℕ, _+_, _-_, _≤_, _<_, _^_, zero-le}
+use native.Mathlib.Nat.{lt-of-le-of-lt, lt-of-lt-of-le}
 use native.Mathlib.Numerals.{add-one-le, add-one-dec}
 use mathlib.Core.List.{[], _∷_, List}
 use lib.Dec.{ltb, lit<}
@@ -49,7 +49,7 @@ use denote.Triple.Walked.{says, Stays, stay-none-slice, stay-none, walkOf, goes-
 use denote.Exit.{yes}
 use borrow.Author.Tests.{ltb-true, ltb-false}
 use Rattle.regular.specs.declared.Design.{Design}
-use Rattle.regular.specs.Designs.{blank}
+use Rattle.regular.specs.Designs.{blank, offset-fits}
 use Rattle.regular.specs.SmallestAnswers.{FirstPlace, DesignPlace}
 use Rattle.lookup.specs.Looking.{Looked, look-none, look-more, look-all}
 use Rattle.regular.proofs.Design as T
@@ -66,10 +66,6 @@ use Rattle.lookup.proofs.first_place.Code.Mir as m
 
 abbrev stayed : Stays (f.ended .signature .params) (f.ended .kept)
 stayed = (stay-none-slice (0 ∷ []) tt (plain (λ _. T.the-row)) yes, (stay-none (λ _. T.the-row) yes, tt))
-
--- the byte offset of an element within the list fits a usize
-offset-fits : (i n : ℕ) → i < n → n * 18 < 2 ^ 63 → i * 18 < 2 ^ 64
-offset-fits i n l r = lt-of-le-of-lt (mul-le-mul-right 18 (le-of-lt l)) (lt-trans r (lit< tt))
 
 abbrev word : Ty
 word = tyInt w64

@@ -3,7 +3,8 @@ use borrow.Author.Needs.{needs}
 use lib.ListN.{getD}
 use Rattle.regular.specs.Runs.{runsOf}
 use Rattle.regular.specs.RefusalLaws.{runs-faults-most}
-use Rattle.measures.specs.Measured.{ready, resolution-switches, listed-fills}
+use Rattle.admission.specs.Admission.{ready}
+use Rattle.measures.specs.Measured.{resolution-switches, listed-fills}
 use Rattle.measures.proofs.list_resolution_of_runs.Statement.{statement}
 use Rattle.measures.proofs.list_resolution_of_runs.Tie as tie
 

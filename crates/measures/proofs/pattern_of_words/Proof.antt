@@ -1,7 +1,8 @@
 -- `measures::pattern_of_words` meets its contract: the plan is admitted, and has the pattern of its standard columns. Assumes nothing.
 use borrow.Author.Needs.{needs}
 use Rattle.regular.specs.RefusalLaws.{words-faults-most}
-use Rattle.measures.specs.Measured.{ready, pattern-fills}
+use Rattle.admission.specs.Admission.{ready}
+use Rattle.measures.specs.Measured.{pattern-fills}
 use Rattle.measures.proofs.pattern_of_words.Statement.{statement}
 use Rattle.measures.proofs.pattern_of_words.Tie as tie
 

@@ -2,7 +2,8 @@
 use borrow.Author.Needs.{needs}
 use lib.ListN.{getD}
 use Rattle.regular.specs.Runs.{runsOf}
-use Rattle.measures.specs.Measured.{ready, resolution-switches}
+use Rattle.admission.specs.Admission.{ready}
+use Rattle.measures.specs.Measured.{resolution-switches}
 use Rattle.measures.proofs.resolution_of_runs.Statement.{statement}
 use Rattle.measures.proofs.resolution_of_runs.Tie as tie
 

@@ -3,8 +3,8 @@
 use mathlib.Core.Path.{_≡_, refl, sym, ap}
 use mathlib.Core.Bool.{Bool, true, false}
 use mathlib.Core.WellFounded.{WellFounded, InvImage·wf}
-use Prim.Native.Nat.{ℕ, _+_, _-_, _*_, _≤_, _<_, _^_, zero-le}
-use native.Mathlib.Nat.{lt-trans, lt-of-le-of-lt, mul-le-mul-right, le-of-lt, le-antisymm}
+use Prim.Native.Nat.{ℕ, _+_, _-_, _≤_, _<_, _^_, zero-le}
+use native.Mathlib.Nat.{lt-of-le-of-lt, le-antisymm}
 use native.Mathlib.Numerals.{add-one-le, add-one-dec}
 use mathlib.Core.List.{[], _∷_, List}
 use lib.Dec.{ltb, lit<}
@@ -48,18 +48,18 @@ use denote.Triple.Walked.{says, Stays, stay-none, stay-none-slice, walkOf, goes-
 use denote.Exit.{yes}
 use borrow.Author.Tests.{ltb-true, ltb-false}
 use Rattle.regular.specs.declared.Design.{Design}
-use Rattle.regular.specs.Designs.{blank}
-use Rattle.regular.specs.Sizes.{Size}
+use Rattle.regular.specs.Designs.{blank, offset-fits}
+use Rattle.regular.specs.Sizes.{Sized}
 use Rattle.regular.specs.Refusals.{Lowest, either, sizeFaults}
 use Rattle.regular.specs.PlanLists.{wantedRecordsFaults, ofSome}
 use Rattle.plan_lists.specs.Judged.{Joined, designWanted}
 use Rattle.plan_lists.specs.Judging.{joined-none, joined-next, records-all}
 use Rattle.regular.proofs.Design as T
 use Rattle.regular.proofs.Design.Laws as T′
-use Rattle.plan_lists.proofs.sizes as szs
-use Rattle.plan_lists.proofs.sizes.Symbol as szs-def
-use Rattle.plan_lists.proofs.sizes.Symbol.{name as #plan-lists·sizes}
-use Rattle.plan_lists.proofs.sizes.Met as szs-thm
+use Rattle.admission.proofs.bounds_number as bnd
+use Rattle.admission.proofs.bounds_number.Symbol as bnd-def
+use Rattle.admission.proofs.bounds_number.Symbol.{name as #admission·bounds-number}
+use Rattle.admission.proofs.bounds_number.Met as bnd-thm
 use Rattle.plan_lists.proofs.judge as jdg
 use Rattle.plan_lists.proofs.judge.Symbol as jdg-def
 use Rattle.plan_lists.proofs.judge.Symbol.{name as #plan-lists·judge}
@@ -73,10 +73,6 @@ use Rattle.plan_lists.proofs.records_refusal.Code.Mir as m
 abbrev stayed : Stays (f.ended .signature .params) (f.ended .kept)
 stayed = (stay-none (λ _. usize) yes, (stay-none (λ _. usize) yes, (stay-none (λ _. usize) yes, (stay-none-slice (0 ∷ []) tt (plain (λ _. T.the-row)) yes, tt))))
 
--- the byte offset of an element within the list fits a usize
-offset-fits : (i n : ℕ) → i < n → n * 18 < 2 ^ 63 → i * 18 < 2 ^ 64
-offset-fits i n l r = lt-of-le-of-lt (mul-le-mul-right 18 (le-of-lt l)) (lt-trans r (lit< tt))
-
 abbrev word : Ty
 word = tyInt w64
 
@@ -86,20 +82,20 @@ byte = tyInt w8
 abbrev slice : Ty
 slice = sliceTy (tyRef (named 0) imm (pointee (T.the-row .written)))
 
--- what `sizes` says
-abbrev Sized : ℕ → ℕ → ℕ → ℕ → Type 0
-Sized w g r k = Lowest (sizeFaults w g r) k × (k ≡ 0 → Size w g) × (k ≤ 3)
+-- what `bounds_number` says
+abbrev Bounds : ℕ → ℕ → ℕ → ℕ → Type 0
+Bounds w g r k = Lowest (sizeFaults w g r) k × (k ≡ 0 → Sized w g r) × (k ≤ 3)
 
 module _ {M : Type 1} (𝓤 : URA M) (H : Heap 𝓤) (A : Atoms 𝓤) (mem : Memory → SProp 𝓤) (run : Routine → Fun 𝓤) where
   -- the contracts that the proof cites, and of each `ensured` the clause alone
-  abbrev Szs : Contract 𝓤
-  Szs = tripleOf 𝓤 H A szs.signature (szs.spec 𝓤 H A mem run)
+  abbrev Bnd : Contract 𝓤
+  Bnd = tripleOf 𝓤 H A bnd.signature (bnd.spec 𝓤 H A mem run)
 
   abbrev Jdg : Contract 𝓤
   Jdg = tripleOf 𝓤 H A jdg.signature (jdg.spec 𝓤 H A mem run)
 
-  szs-of : (w g r k : ℕ) → ent 𝓤 (ensured 𝓤 H A szs.ended (szs.clauses 𝓤 H A mem run) tt (w, (g, (r, tt))) tt k) (fact 𝓤 (Sized w g r k))
-  szs-of w g r k = exE 𝓤 _ (λ ws. snd∗ 𝓤 (sem 𝓤 H A (lasts szs.ended tt (w, (g, (r, tt))) ws)) (fact 𝓤 (Sized w g r k)))
+  bnd-of : (w g r k : ℕ) → ent 𝓤 (ensured 𝓤 H A bnd.ended (bnd.clauses 𝓤 H A mem run) tt (w, (g, (r, tt))) tt k) (fact 𝓤 (Bounds w g r k))
+  bnd-of w g r k = exE 𝓤 _ (λ ws. snd∗ 𝓤 (sem 𝓤 H A (lasts bnd.ended tt (w, (g, (r, tt))) ws)) (fact 𝓤 (Bounds w g r k)))
 
   jdg-of : (w g r : ℕ) (c : Design) (t k : ℕ) → ent 𝓤 (ensured 𝓤 H A jdg.ended (jdg.clauses 𝓤 H A mem run) tt (w, (g, (r, (c, (t, tt))))) tt k) (fact 𝓤 (Joined (designWanted w g r c) t k))
   jdg-of w g r c t k = exE 𝓤 _ (λ ws. snd∗ 𝓤 (sem 𝓤 H A (lasts jdg.ended tt (w, (g, (r, (c, (t, tt))))) ws)) (fact 𝓤 (Joined (designWanted w g r c) t k)))
@@ -161,11 +157,11 @@ module _ {M : Type 1} (𝓤 : URA M) (H : Heap 𝓤) (A : Atoms 𝓤) (W : Given
     fits : (i : ℕ) → i ≤ n → i < 2 ^ 64
     fits i l = lt-of-le-of-lt l (room .0)
 
-    abbrev to-szs : Szs 𝓤 H A mem run .Ghost
-    to-szs = ((tt, tt, tt, (w, (g, (r, tt))), (vint w64 w ∷ [], (vint w64 g ∷ [], (vint w64 r ∷ [], tt)))), tt)
+    abbrev to-bnd : Bnd 𝓤 H A mem run .Ghost
+    to-bnd = ((tt, tt, tt, (w, (g, (r, tt))), (vint w64 w ∷ [], (vint w64 g ∷ [], (vint w64 r ∷ [], tt)))), tt)
 
-    goes-szs : ent 𝓤 (sem 𝓤 H A ftrue) (Szs 𝓤 H A mem run .pre to-szs)
-    goes-szs =
+    goes-bnd : ent 𝓤 (sem 𝓤 H A ftrue) (Bnd 𝓤 H A mem run .pre to-bnd)
+    goes-bnd =
         qed W (‵ ftrue ∷ []) ∵
         owned ! usize (Is usize) (uint-makes 𝓤 H A W w64) r _ (refl, r-fits) $ fjoin ! $ owned ! usize (Is usize) (uint-makes 𝓤 H A W w64) g _ (refl, g-fits) $ fjoin ! $ owned ! usize (Is usize) (uint-makes 𝓤 H A W w64) w _ (refl, w-fits) $ fjoin ! $
         nothing ! $ join ! $ frame ! $ done !
@@ -245,14 +241,14 @@ module _ {M : Type 1} (𝓤 : URA M) (H : Heap 𝓤) (A : Atoms 𝓤) (W : Given
       turns : (t : State) → Sq W (At t) (runs C Λ En m.turn-1 (anyQ (Turned t)))
       turns t = turn-by t (ltb (t .0) n) refl
 
-    start : (t : ℕ) → t < 2 ^ 8 → Sized w g r t → State
+    start : (t : ℕ) → t < 2 ^ 8 → Bounds w g r t → State
     start t t-fits z = (0, (t, (zero-le, (t-fits, joined-none (sizeFaults w g r) (λ j. designWanted w g r (getD ys j blank)) t (z .0)))))
 
-    module _ (𝓣 : Tables 𝓤 H) (begun : Triple 𝓤 (𝓣 .C #plan-lists·sizes) (Szs 𝓤 H A mem run)) (known : Triple 𝓤 (𝓣 .C #plan-lists·judge) (Jdg 𝓤 H A mem run)) (l₀ l₁ l₂ l₃ l₄ l₅ l₆ l₇ l₈ l₉ l₁₀ l₁₁ : ℕ) where
+    module _ (𝓣 : Tables 𝓤 H) (begun : Triple 𝓤 (𝓣 .C #admission·bounds-number) (Bnd 𝓤 H A mem run)) (known : Triple 𝓤 (𝓣 .C #plan-lists·judge) (Jdg 𝓤 H A mem run)) (l₀ l₁ l₂ l₃ l₄ l₅ l₆ l₇ l₈ l₉ l₁₀ l₁₁ : ℕ) where
       abbrev E : Env 𝓤 H
       E = En 𝓣 known l₀ l₁ l₂ l₃ l₄ l₅ l₆ l₇ l₈ l₉ l₁₀ l₁₁
 
-      looped : (t : ℕ) (t-fits : t < 2 ^ 8) (z : Sized w g r t) → ent 𝓤 (⋆ 𝓤 H A (Ctx 𝓣 known l₀ l₁ l₂ l₃ l₄ l₅ l₆ l₇ l₈ l₉ l₁₀ l₁₁ 0 t)) (Wp 𝓤 H (𝓣 .C) (𝓣 .Λ) E m.t-3 (atReturn 𝓤 H E Post))
+      looped : (t : ℕ) (t-fits : t < 2 ^ 8) (z : Bounds w g r t) → ent 𝓤 (⋆ 𝓤 H A (Ctx 𝓣 known l₀ l₁ l₂ l₃ l₄ l₅ l₆ l₇ l₈ l₉ l₁₀ l₁₁ 0 t)) (Wp 𝓤 H (𝓣 .C) (𝓣 .Λ) E m.t-3 (atReturn 𝓤 H E Post))
       unfolding start
       looped t t-fits z =
           qed W (At 𝓣 known l₀ l₁ l₂ l₃ l₄ l₅ l₆ l₇ l₈ l₉ l₁₀ l₁₁ (start t t-fits z)) ∵ exec ! (𝓣 .C) (𝓣 .Λ) E m.t-3 (atRet E Post) $
@@ -268,10 +264,10 @@ module _ {M : Type 1} (𝓤 : URA M) (H : Heap 𝓤) (A : Atoms 𝓤) (W : Given
       begins =
           qed W Before ∵ exec ! (𝓣 .C) (𝓣 .Λ) E m.t-1 (atRet E Post) $
           assigns ! (of-opd ! (lit ! tt)) (from ! (stop !)) (init ! 12 refl (tt, record { fits = lit< tt })) $
-          nothing ! $ use1 W (raw (Szs 𝓤 H A mem run .pre to-szs)) goes-szs $
-          calls-at ! (fmOf 𝓤 H (W .laws) 𝓣) (Szs 𝓤 H A mem run) begun to-szs (and-then ! (load ! (from ! (stop !)) (look ! 21 refl)) (and-then ! (load ! (from ! (stop !)) (look ! 19 refl)) (and-then ! (load ! (from ! (stop !)) (look ! 17 refl)) (no-more !)))) (λ v.
-          use1 W (later (some (λ (k : ℕ). (‵ ftrue ⊛ ‵ (u8 .own k (v ∷ []))) ⊛ raw (ensured 𝓤 H A szs.ended (szs.clauses 𝓤 H A mem run) tt (w, (g, (r, tt))) tt k)))) (id⊢ 𝓤 _) $ await ! tt $ pick ! (λ k.
-          split ! $ move ! (1 ∷ []) $ use1 W (raw (fact 𝓤 (Sized w g r k))) (szs-of 𝓤 H A mem run w g r k) $ heard ! (Sized w g r k) (λ z. split ! $ drop ! $
+          nothing ! $ use1 W (raw (Bnd 𝓤 H A mem run .pre to-bnd)) goes-bnd $
+          calls-at ! (fmOf 𝓤 H (W .laws) 𝓣) (Bnd 𝓤 H A mem run) begun to-bnd (and-then ! (load ! (from ! (stop !)) (look ! 21 refl)) (and-then ! (load ! (from ! (stop !)) (look ! 19 refl)) (and-then ! (load ! (from ! (stop !)) (look ! 17 refl)) (no-more !)))) (λ v.
+          use1 W (later (some (λ (k : ℕ). (‵ ftrue ⊛ ‵ (u8 .own k (v ∷ []))) ⊛ raw (ensured 𝓤 H A bnd.ended (bnd.clauses 𝓤 H A mem run) tt (w, (g, (r, tt))) tt k)))) (id⊢ 𝓤 _) $ await ! tt $ pick ! (λ k.
+          split ! $ move ! (1 ∷ []) $ use1 W (raw (fact 𝓤 (Bounds w g r k))) (bnd-of 𝓤 H A mem run w g r k) $ heard ! (Bounds w g r k) (λ z. split ! $ drop ! $
           facts ! u8 (Is u8) (shows 𝓤 H A u8) k (v ∷ []) (λ is-k.
           land ! (from ! (stop !)) (init ! 10 refl (uint-lawful 𝓤 H A W w8 .typed k _ is-k .0)) $ rewrite ! 10 (λ (u : Val). ‵ (fat fullShare byte l₆ 0 u)) (ap only (is-k .0)) refl $
           -- what the slice owns is had twice: one is kept whole for the exit, and of the other the fractured borrow
@@ -290,7 +286,7 @@ module _ {M : Type 1} (𝓤 : URA M) (H : Heap 𝓤) (A : Atoms 𝓤) (W : Given
       body = body;
     }
 
-    enters : (𝓣 : Tables 𝓤 H) (begun : Triple 𝓤 (𝓣 .C #plan-lists·sizes) (Szs 𝓤 H A mem run)) (known : Triple 𝓤 (𝓣 .C #plan-lists·judge) (Jdg 𝓤 H A mem run)) (body : Body) (Kf : Val → SProp 𝓤)
+    enters : (𝓣 : Tables 𝓤 H) (begun : Triple 𝓤 (𝓣 .C #admission·bounds-number) (Bnd 𝓤 H A mem run)) (known : Triple 𝓤 (𝓣 .C #plan-lists·judge) (Jdg 𝓤 H A mem run)) (body : Body) (Kf : Val → SProp 𝓤)
         → ((l₀ l₁ l₂ l₃ l₄ l₅ l₆ l₇ l₈ l₉ l₁₀ l₁₁ : ℕ) → ent 𝓤 (⋆ 𝓤 H A (Before 𝓣 begun known l₀ l₁ l₂ l₃ l₄ l₅ l₆ l₇ l₈ l₉ l₁₀ l₁₁)) (Wp 𝓤 H (𝓣 .C) (𝓣 .Λ) (E 𝓣 begun known l₀ l₁ l₂ l₃ l₄ l₅ l₆ l₇ l₈ l₉ l₁₀ l₁₁) body (atReturn 𝓤 H (E 𝓣 begun known l₀ l₁ l₂ l₃ l₄ l₅ l₆ l₇ l₈ l₉ l₁₀ l₁₁) Kf)))
         → ent 𝓤 (onEntry 𝓤 H A f.signature (κ, tt) (q, tt) a at) (WpFn 𝓤 H (𝓣 .C) (𝓣 .Λ) (shell body) (vint w64 w ∷ vint w64 g ∷ vint w64 r ∷ s ∷ []) Kf)
     enters 𝓣 begun known body Kf k =
@@ -299,18 +295,18 @@ module _ {M : Type 1} (𝓤 : URA M) (H : Heap 𝓤) (A : Atoms 𝓤) (W : Given
         pass1 ! (init ! 20 refl (tt, record { fits = w-fits })) $ pass1 ! (init ! 18 refl (tt, record { fits = g-fits })) $ pass1 ! (init ! 16 refl (tt, record { fits = r-fits })) $ pass1 ! (init ! 14 refl (tt, (tt, (record { fits = room .0 }, tt)))) $ pass0 ! $
         by ! (k l₀ l₁ l₂ l₃ l₄ l₅ l₆ l₇ l₈ l₉ l₁₀ l₁₁)))))))))))))
 
-    walk : (𝓣 : Tables 𝓤 H) → Triple 𝓤 (𝓣 .C #plan-lists·sizes) (Szs 𝓤 H A mem run) → Triple 𝓤 (𝓣 .C #plan-lists·judge) (Jdg 𝓤 H A mem run) → ent 𝓤 (onEntry 𝓤 H A f.signature (κ, tt) (q, tt) a at) (WpFn 𝓤 H (𝓣 .C) (𝓣 .Λ) code.function (vint w64 w ∷ vint w64 g ∷ vint w64 r ∷ s ∷ []) Post)
+    walk : (𝓣 : Tables 𝓤 H) → Triple 𝓤 (𝓣 .C #admission·bounds-number) (Bnd 𝓤 H A mem run) → Triple 𝓤 (𝓣 .C #plan-lists·judge) (Jdg 𝓤 H A mem run) → ent 𝓤 (onEntry 𝓤 H A f.signature (κ, tt) (q, tt) a at) (WpFn 𝓤 H (𝓣 .C) (𝓣 .Λ) code.function (vint w64 w ∷ vint w64 g ∷ vint w64 r ∷ s ∷ []) Post)
     walk 𝓣 begun known = enters 𝓣 begun known m.t-1 Post (begins 𝓣 begun known)
 
 module _ {M : Type 1} (𝓤 : URA M) (H : Heap 𝓤) (A : Atoms 𝓤) (W : Given 𝓤 H A) (mem : Memory → SProp 𝓤) (run : Routine → Fun 𝓤) where
-  refusal-walks : (𝓣 : Tables 𝓤 H) → Triple 𝓤 (𝓣 .C #plan-lists·sizes) (Szs 𝓤 H A mem run) → Triple 𝓤 (𝓣 .C #plan-lists·judge) (Jdg 𝓤 H A mem run) → Walks 𝓤 H A f.ended stayed (WpFn 𝓤 H (𝓣 .C) (𝓣 .Λ) code.function) (f.clauses 𝓤 H A mem run)
+  refusal-walks : (𝓣 : Tables 𝓤 H) → Triple 𝓤 (𝓣 .C #admission·bounds-number) (Bnd 𝓤 H A mem run) → Triple 𝓤 (𝓣 .C #plan-lists·judge) (Jdg 𝓤 H A mem run) → Walks 𝓤 H A f.ended stayed (WpFn 𝓤 H (𝓣 .C) (𝓣 .Λ) code.function) (f.clauses 𝓤 H A mem run)
   refusal-walks 𝓣 begun known = walked 𝓤 H A f.ended stayed (f.clauses 𝓤 H A mem run) (WpFn 𝓤 H (𝓣 .C) (𝓣 .Λ) code.function)
       (λ κs. (uint-vals w64, (uint-vals w64, (uint-vals w64, (slice-vals, tt))))) (λ κs. (uint-tells w64, (uint-tells w64, (uint-tells w64, (shr-slice-tells (named 0) (κs .0) T.the-row, tt)))))
       (λ κs qs bounds a g are. via 𝓤 _ (fst∗ 𝓤 _ (emp 𝓤))
       (walk 𝓤 H A W mem run (κs .0) (qs .0) (a .1 .1 .1 .0 .ptr .0) (a .1 .1 .1 .0 .ptr .1) (a .1 .1 .1 .0 .name) (a .0) (a .1 .0) (a .1 .1 .0) (a .1 .1 .1 .0 .now)
       (are .1 .1 .1 .0 .0 .1) (are .0 .1) (are .1 .0 .1) (are .1 .1 .0 .1) 𝓣 begun known))
 
-refusal-meets : {M : Type 1} (𝓤 : URA M) (H : Heap 𝓤) (A : Atoms 𝓤) → Given 𝓤 H A → (mem : Memory → SProp 𝓤) (run : Routine → Fun 𝓤) (𝓣 : Tables 𝓤 H) → Triple 𝓤 (𝓣 .C #plan-lists·sizes) (Szs 𝓤 H A mem run) → Triple 𝓤 (𝓣 .C #plan-lists·judge) (Jdg 𝓤 H A mem run)
+refusal-meets : {M : Type 1} (𝓤 : URA M) (H : Heap 𝓤) (A : Atoms 𝓤) → Given 𝓤 H A → (mem : Memory → SProp 𝓤) (run : Routine → Fun 𝓤) (𝓣 : Tables 𝓤 H) → Triple 𝓤 (𝓣 .C #admission·bounds-number) (Bnd 𝓤 H A mem run) → Triple 𝓤 (𝓣 .C #plan-lists·judge) (Jdg 𝓤 H A mem run)
     → Meets 𝓤 H A f.signature (WpFn 𝓤 H (𝓣 .C) (𝓣 .Λ) code.function) (f.spec 𝓤 H A mem run)
 refusal-meets 𝓤 H A W mem run 𝓣 begun known =
     walk-meets 𝓤 H A f.ended stayed W
@@ -323,5 +319,5 @@ records-refusal-spec 𝓤 H 𝓜 𝓖 𝓡 =
     entered 𝓤 H (tripleOf 𝓤 H (𝓖 .A) f.signature (f.spec 𝓤 H (𝓖 .A) (𝓜 .mem) (𝓡 .run)))
     (tables 𝓤 H 𝓜 𝓡 code.env .C) (tables 𝓤 H 𝓜 𝓡 code.env .Λ) #plan-lists·records_refusal code.function (code.unfolded 𝓤 H 𝓜 𝓡)
     (refusal-meets 𝓤 H (𝓖 .A) (givenOf 𝓤 H 𝓜 𝓖) (𝓜 .mem) (𝓡 .run) (tablesOf 𝓤 H 𝓜 (tables 𝓤 H 𝓜 𝓡 code.env))
-    (cited 𝓤 H (Szs 𝓤 H (𝓖 .A) (𝓜 .mem) (𝓡 .run)) 𝓜 𝓡 code.env #plan-lists·sizes szs-def.routine code.calls-plan-lists·sizes (szs-thm.met 𝓤 H 𝓜 𝓖 𝓡))
+    (cited 𝓤 H (Bnd 𝓤 H (𝓖 .A) (𝓜 .mem) (𝓡 .run)) 𝓜 𝓡 code.env #admission·bounds-number bnd-def.routine code.calls-admission·bounds-number (bnd-thm.met 𝓤 H 𝓜 𝓖 𝓡))
     (cited 𝓤 H (Jdg 𝓤 H (𝓖 .A) (𝓜 .mem) (𝓡 .run)) 𝓜 𝓡 code.env #plan-lists·judge jdg-def.routine code.calls-plan-lists·judge (jdg-thm.met 𝓤 H 𝓜 𝓖 𝓡)))

@@ -6,6 +6,7 @@ use lib.ListN.{length}
 use Rattle.regular.specs.Columns.{planOf}
 use Rattle.regular.specs.Refusals.{columnsFaults}
 use Rattle.regular.specs.Same.{Carries}
+use Rattle.lent.specs.Lends.{lends-lent}
 use Rattle.smallest_form.specs.Placed.{formed-accepted, formed-mask, lent-smallest, lent-carries}
 use Rattle.smallest_form.proofs.form_into.Statement.{statement}
 use Rattle.smallest_form.proofs.form_into.Tie as tie
@@ -23,7 +24,7 @@ lend-first-requires c κs =
     let zs = f .last .1 .1 .1 .1 .0 in
     let h : a .n ≤ length (a .witness .now) = omega (arith, p .2) in
     let e = formed-accepted (columnsFaults (a .n) (a .g) (a .columns .now)) (a .n) (a .g) s (λ mask. mask ≡ 0) 0 (a .witness .now) zs (f .result) (f .ensures) (p .0) refl h in
-    (f .ensures .sizes e .most, omega (arith, p .1))
+    f .ensures .sizes e .most
 
 same-length : tie.Need-same-length
 same-length c = search needs
@@ -42,11 +43,12 @@ returns c =
     let e = formed-accepted (columnsFaults (a .n) (a .g) (a .columns .now)) (a .n) (a .g) s (λ mask. mask ≡ 0) 0 (a .witness .now) zs (f .result) (f .ensures) (p .0) refl h in
     let l = c .before .before .lend-first in
     let filled = l .last .1 .1 .0 in
+    let lent = lends-lent (a .n) (f .result .design .columns) (a .out .now) filled (l .result) (omega (arith, p .1)) (l .ensures) in
     record {
-      smallest = lent-smallest (columnsFaults (a .n) (a .g) (a .columns .now)) (a .n) (a .g) s (λ mask. mask ≡ 0) 0 (a .witness .now) zs (f .result) (f .ensures) e (a .out .now) filled (l .ensures);
+      smallest = lent-smallest (columnsFaults (a .n) (a .g) (a .columns .now)) (a .n) (a .g) s (λ mask. mask ≡ 0) 0 (a .witness .now) zs (f .result) (f .ensures) e (a .out .now) filled lent;
       witness = subst (Carries (a .n) s (planOf (a .n) (a .n - a .g) filled) zs)
           (formed-mask (columnsFaults (a .n) (a .g) (a .columns .now)) (a .n) (a .g) s 0 (a .witness .now) zs (f .result) (f .ensures))
-          (lent-carries (columnsFaults (a .n) (a .g) (a .columns .now)) (a .n) (a .g) s (λ mask. mask ≡ 0) 0 (a .witness .now) zs (f .result) (f .ensures) e (a .out .now) filled (l .ensures));
+          (lent-carries (columnsFaults (a .n) (a .g) (a .columns .now)) (a .n) (a .g) s (λ mask. mask ≡ 0) 0 (a .witness .now) zs (f .result) (f .ensures) e (a .out .now) filled lent);
       size = (l .ensures .size ∙ p .1, f .ensures .size ∙ p .2);
     }
 

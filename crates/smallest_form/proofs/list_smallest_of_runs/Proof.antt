@@ -1,12 +1,11 @@
 -- `smallest_form::list_smallest_of_runs` meets its contract: the list and the lent list are judged first, then the plan; its form is lent and looked for. Assumes nothing.
-use Prim.Native.Nat.{_-_}
 use mathlib.Core.Path.{_≡_}
 use Rattle.regular.specs.Runs.{runsOf}
 use Rattle.regular.specs.Same.{moved}
 use lib.ListN.{length, getD}
 use Rattle.regular.specs.Refusals.{runsFaults}
 use Rattle.regular.specs.RefusalLaws.{runs-faults-most}
-use Rattle.reduction.specs.Lending.{lending-accepted}
+use Rattle.lent.specs.Lending.{lending-accepted}
 use Rattle.smallest_form.specs.Others.{others, others-most, others-lowest}
 use Rattle.smallest_form.specs.Placed.{formed-other, formed-into}
 use Rattle.smallest_form.proofs.list_smallest_of_runs.Statement.{statement}

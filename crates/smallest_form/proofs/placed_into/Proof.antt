@@ -1,6 +1,7 @@
 -- `smallest_form::placed_into` meets its contract: a refusal leaves the list; an accepted form is lent and looked for. Assumes nothing.
 use mathlib.Core.Path.{refl}
 use native.Mathlib.Omega.{arith}
+use Rattle.lent.specs.Lends.{lends-lent}
 use Rattle.smallest_form.proofs.placed_into.Statement.{statement}
 use Rattle.smallest_form.proofs.placed_into.Tie as tie
 use borrow.Author.Needs.{needs}
@@ -19,8 +20,7 @@ returns c =
 
 lend-first-requires : tie.Need-lend-first-requires
 lend-first-requires c κs =
-    let p = c .before .before .before .before .before .pre (c .before .before .if1 .left) in
-    (p .1, p .2)
+    c .before .before .before .before .before .pre (c .before .before .if1 .left) .1
 
 first-columns-requires : tie.Need-first-columns-requires
 first-columns-requires c κs =
@@ -34,12 +34,14 @@ returns-2 : tie.Need-returns-2
 returns-2 c =
     let l = c .before .before .before .lend-first in
     let e = c .before .before .before .before .before .before .if1 .left in
+    let a = c .before .before .before .before .before .before .before .before .before .args in
+    let p = c .before .before .before .before .before .before .before .before .before .pre e in
     record {
       number = refl;
       mask = refl;
       no-place = λ h. absurd (omega (arith, e));
       untouched = λ h. absurd (omega (arith, e));
-      lent = λ _. l .ensures;
+      lent = λ _. lends-lent (a .n) (a .form .design .columns) (a .out .now) (l .last .1 .1 .0) (l .result) (p .2) (l .ensures);
       place = λ _. c .first-columns .ensures;
       size = l .ensures .size;
     }

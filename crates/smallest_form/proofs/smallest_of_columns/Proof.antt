@@ -6,7 +6,7 @@ use lib.ListN.{length}
 use Rattle.regular.specs.Refusals.{columnsFaults, LentFault, either}
 use Rattle.regular.specs.RefusalLaws.{columns-faults-most}
 use Rattle.regular.specs.SmallestAnswers.{ReducesInto}
-use Rattle.reduction.specs.Lending.{lending-accepted}
+use Rattle.lent.specs.Lending.{lending-accepted}
 use Rattle.smallest_form.specs.Others.{others, others-most, others-lowest}
 use Rattle.smallest_form.specs.Placed.{formed-other, formed-mask, formed-into}
 use Rattle.smallest_form.proofs.smallest_of_columns.Statement.{statement}

@@ -1,7 +1,7 @@
 -- `smallest_form::smallest_of_design` meets its contract: a walk of its MIR, by hand. The list of records is judged, the form is found, and looked for
 -- in the list. The list is read alone, so what it owns is had three times: for the two calls and for the exit. The witness's list is given up to
 -- `form_of_design`, at its own lifetime, share and name: what that says of the last list is what is said at the exit. Assumes nothing.
-use mathlib.Core.Path.{_≡_, refl, ap, subst}
+use mathlib.Core.Path.{_≡_, refl, ap}
 use Prim.Native.Nat.{ℕ, _-_, _<_, _^_}
 use mathlib.Core.List.{[], _∷_, List}
 use lib.ListN.{length}
@@ -70,7 +70,7 @@ use Rattle.smallest_form.proofs.placed.Symbol as place-def
 use Rattle.smallest_form.proofs.placed.Symbol.{name as #place}
 use Rattle.smallest_form.proofs.placed.Met as place-thm
 use Rattle.smallest_form.proofs.Listed as listed
-use Rattle.smallest_form.proofs.Listed.{word, byte, mach, told, Refuse, Find, Place, refuse-of, find-of, place-of, to-refuse, to-find, to-place, goes-refuse, goes-find, goes-place}
+use Rattle.smallest_form.proofs.Listed.{word, byte, mach, told, is-design, is-told, Refuse, Find, Place, refuse-of, find-of, place-of, to-refuse, to-find, to-place, goes-refuse, goes-find, goes-place}
 use Rattle.smallest_form.proofs.smallest_of_design.Key.{name as #own}
 use Rattle.smallest_form.proofs.smallest_of_design as f
 use Rattle.smallest_form.proofs.smallest_of_design.Statement as stated
@@ -148,13 +148,6 @@ module _ {M : Type 1} (𝓤 : URA M) (H : Heap 𝓤) (A : Atoms 𝓤) (W : Given
         owned ! T.the-row (Is T.the-row) (LL.makes T.the-type T′.the-plain 𝓤 H A) d _ is-d $ fjoin ! $
         owned ! usize (Is usize) (uint-makes 𝓤 H A W w64) g _ (refl, g-fits) $ fjoin ! $ owned ! usize (Is usize) (uint-makes 𝓤 H A W w64) n _ (refl, n-fits) $ fjoin ! $ frame ! $
         owned ! S.the-row (Is S.the-row) (LL.makes S.the-type S′.the-plain 𝓤 H A) r _ is-r $ done !
-
-    -- the form's record, and the form at its own machine value
-    is-design : (u : SmallestAnswer) {v : Val} → Is S.the-row u (v ∷ []) → Is T.the-row (u .design) (mach (u .design) ∷ [])
-    is-design u {v} i = LL.owed S.the-type S′.the-laws u (v ∷ []) i .1 .1 .1 .0
-
-    is-told : (u : SmallestAnswer) {v : Val} → Is S.the-row u (v ∷ []) → Is S.the-row u (told u ∷ [])
-    is-told u {v} i = subst (Is S.the-row u) (LL.tells S.the-type S′.the-laws u (v ∷ []) i) i
 
     module _ (C : Calls 𝓤 H) (Λ : Loops 𝓤 H) (fm : FmC 𝓤 H (W .laws) C) (refuses : Triple 𝓤 (C #refuse) (Refuse 𝓤 H A mem run)) (forms : Triple 𝓤 (C #form) (Form 𝓤 H A mem run))
         (finds : Triple 𝓤 (C #find) (Find 𝓤 H A mem run)) (places : Triple 𝓤 (C #place) (Place 𝓤 H A mem run)) where

@@ -5,7 +5,7 @@ use lib.ListN.{length}
 use Rattle.regular.specs.PlanLists.{plansFaults}
 use Rattle.regular.specs.Refusals.{LentFault, either, Lowest}
 use Rattle.plan_lists.specs.Judging.{three-plans}
-use Rattle.reduction.specs.Lending.{lending-lowest, lending-accepted}
+use Rattle.lent.specs.Lending.{lending-lowest, lending-accepted}
 use Rattle.smallest_form.specs.Others.{others, others-most, others-lowest}
 use Rattle.smallest_form.specs.Each.{plans-some, each-refused, each-reduced}
 use Rattle.smallest_form.proofs.smallest_of_plans.Statement.{statement}

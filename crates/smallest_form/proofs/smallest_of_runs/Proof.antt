@@ -1,6 +1,6 @@
 -- `smallest_form::smallest_of_runs` meets its contract: a walk of its MIR, by hand, as that of `smallest_of_design`; the run table is a lent list
 -- that is read alone, so what it owns is had twice: for `form_of_runs` and for the exit. Assumes nothing.
-use mathlib.Core.Path.{_≡_, refl, ap, subst}
+use mathlib.Core.Path.{_≡_, refl, ap}
 use Prim.Native.Nat.{ℕ, _-_, _<_, _^_}
 use mathlib.Core.List.{[], _∷_, List}
 use lib.ListN.{length, getD}
@@ -50,7 +50,6 @@ use Rattle.reduction.specs.Formed.{Formed}
 use Rattle.smallest_form.specs.Others.{records-most}
 use Rattle.smallest_form.specs.Placed.{Placed, formed-reduces}
 use Rattle.regular.proofs.Design as T
-use Rattle.regular.proofs.Design.Laws as T′
 use Rattle.regular.proofs.SmallestAnswer as S
 use Rattle.regular.proofs.SmallestAnswer.Laws as S′
 use Rattle.plan_lists.proofs.records_refusal as refuse
@@ -70,7 +69,7 @@ use Rattle.smallest_form.proofs.placed.Symbol as place-def
 use Rattle.smallest_form.proofs.placed.Symbol.{name as #place}
 use Rattle.smallest_form.proofs.placed.Met as place-thm
 use Rattle.smallest_form.proofs.Listed as listed
-use Rattle.smallest_form.proofs.Listed.{word, byte, mach, told, Refuse, Find, Place, refuse-of, find-of, place-of, to-refuse, to-find, to-place, goes-refuse, goes-find, goes-place}
+use Rattle.smallest_form.proofs.Listed.{word, byte, told, is-design, is-told, Refuse, Find, Place, refuse-of, find-of, place-of, to-refuse, to-find, to-place, goes-refuse, goes-find, goes-place}
 use Rattle.smallest_form.proofs.smallest_of_runs.Key.{name as #own}
 use Rattle.smallest_form.proofs.smallest_of_runs as f
 use Rattle.smallest_form.proofs.smallest_of_runs.Statement as stated
@@ -155,13 +154,6 @@ module _ {M : Type 1} (𝓤 : URA M) (H : Heap 𝓤) (A : Atoms 𝓤) (W : Given
         nothing ! $ move ! (1 ∷ 0 ∷ []) $ fjoin ! $ move ! (1 ∷ 0 ∷ []) $ fjoin ! $ move ! (1 ∷ 0 ∷ []) $ fjoin ! $
         owned ! usize (Is usize) (uint-makes 𝓤 H A W w64) g _ (refl, g-fits) $ fjoin ! $ owned ! usize (Is usize) (uint-makes 𝓤 H A W w64) n _ (refl, n-fits) $ fjoin ! $ frame ! $
         owned ! S.the-row (Is S.the-row) (LL.makes S.the-type S′.the-plain 𝓤 H A) r _ is-r $ done !
-
-    -- the form's record, and the form at its own machine value
-    is-design : (u : SmallestAnswer) {v : Val} → Is S.the-row u (v ∷ []) → Is T.the-row (u .design) (mach (u .design) ∷ [])
-    is-design u {v} i = LL.owed S.the-type S′.the-laws u (v ∷ []) i .1 .1 .1 .0
-
-    is-told : (u : SmallestAnswer) {v : Val} → Is S.the-row u (v ∷ []) → Is S.the-row u (told u ∷ [])
-    is-told u {v} i = subst (Is S.the-row u) (LL.tells S.the-type S′.the-laws u (v ∷ []) i) i
 
     module _ (C : Calls 𝓤 H) (Λ : Loops 𝓤 H) (fm : FmC 𝓤 H (W .laws) C) (refuses : Triple 𝓤 (C #refuse) (Refuse 𝓤 H A mem run)) (forms : Triple 𝓤 (C #form) (Form 𝓤 H A mem run))
         (finds : Triple 𝓤 (C #find) (Find 𝓤 H A mem run)) (places : Triple 𝓤 (C #place) (Place 𝓤 H A mem run)) where

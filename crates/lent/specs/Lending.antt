@@ -1,12 +1,11 @@
--- A lent list of too few places as the last argument to be judged; a lent list whose first places are filled.
+-- A lent list of too few places as the last argument to be judged.
 use Prim.Native.Nat.{ℕ, _≤_, _<_}
-use mathlib.Core.Path.{_≡_, refl, subst}
+use mathlib.Core.Path.{_≡_, subst}
 use mathlib.Core.List.{List}
 use native.Mathlib.Omega.{arith}
-use lib.ListN.{length, getD, drop}
+use lib.ListN.{length}
 use Rattle.regular.specs.Refusals.{LentFault, either, Lowest}
-use Rattle.regular.specs.RefusalLaws.{lowest-first, lowest-then, lowest-none, lowest-at, lent-is}
-use Rattle.lent.specs.Lends.{Lends}
+use Rattle.regular.specs.RefusalLaws.{lowest-first, lowest-then, lent-is, lent-short, lent-fits}
 
 -- the refusal x of a call's other arguments, and then that of a lent list with `places`, of which n are wanted
 pub data Lending (x n places : ℕ) : ℕ → Type 0 where
@@ -18,23 +17,11 @@ pub lending-lowest : (F : ℕ → Type 0) (x n : ℕ) (ys : List ℕ) (r : ℕ) 
 lending-lowest F x n ys r low most (Lending.passed h) =
     lowest-first F (LentFault n ys) x h low (λ k f. omega (arith, lent-is n ys k f, most x (low .applies h)))
 lending-lowest F x n ys r low most (Lending.short e h) =
-    lowest-then F (LentFault n ys) 8 (subst (Lowest F) e low) (lowest-at (LentFault n ys) 8 (omega arith) (LentFault.few h) (λ k f. omega (arith, lent-is n ys k f)))
+    lowest-then F (LentFault n ys) 8 (subst (Lowest F) e low) (lent-short n ys h)
 lending-lowest F x n ys r low most (Lending.none e h) =
-    lowest-then F (LentFault n ys) 0 (subst (Lowest F) e low) (lowest-none (LentFault n ys) never)
-  where
-    never : (k : ℕ) → LentFault n ys k → ⊥
-    never k (LentFault.few l) = omega arith
+    lowest-then F (LentFault n ys) 0 (subst (Lowest F) e low) (lent-fits n ys h)
 
 pub lending-accepted : (x n places r : ℕ) → Lending x n places r → r ≡ 0 → (x ≡ 0) × (n ≤ places)
 lending-accepted x n places r (Lending.passed h) e = absurd (omega arith)
 lending-accepted x n places r (Lending.short q h) e = absurd (omega arith)
 lending-accepted x n places r (Lending.none q h) e = (q, h)
-
--- the first n places of a lent list hold those of xs, the rest is untouched
-pub record Lent (n : ℕ) (xs entry exit : List ℕ) : Type 0 where
-  pub places : (f : ℕ) → f < n → getD exit f 0 ≡ getD xs f 0
-  pub past : drop n exit ≡ drop n entry
-  pub size : length exit ≡ length entry
-
-pub lends-lent : (n : ℕ) (xs ys zs : List ℕ) (r : ℕ) → n ≤ length ys → Lends 0 n (λ zs. (i : ℕ) → i < n → getD zs i 0 ≡ getD xs i 0) ys zs r → Lent n xs ys zs
-lends-lent n xs ys zs r h l = let f = l .filled refl h in record { places = f .1 .0; past = f .1 .1; size = l .size }
