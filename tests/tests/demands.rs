@@ -83,19 +83,13 @@ fn every_definition_has_a_line_of_the_readers_pass_and_every_instance_is_proved(
     assert!(named(3).len() > 100, "only {} instances on the page", named(3).len());
 }
 
-/// Names of the paper's definitions that another crate uses for a notion of its own.
-const SECOND_MEANINGS: [(&str, &str); 5] =
-    [("entries", "Before"), ("book", "Begins"), ("search", "Lowest"), ("search", "Same"), ("smallest_form", "Reduced")];
-
 #[test]
 fn names_of_the_papers_definitions_have_one_meaning() {
     let own = definitions("regular");
     let crates = fs::read_dir(root().join("crates")).expect("the folder crates");
     let mut twice = Vec::new();
     for krate in crates.map(|entry| entry.expect("a crate").file_name().into_string().expect("a name")).filter(|krate| krate != "regular") {
-        let again = definitions(&krate)
-            .into_iter()
-            .filter(|name| own.contains(name) && !SECOND_MEANINGS.contains(&(krate.as_str(), name.as_str())));
+        let again = definitions(&krate).into_iter().filter(|name| own.contains(name));
         twice.extend(again.map(|name| format!("{name} in {krate}")));
     }
     assert!(twice.is_empty(), "defined anew: {twice:?}");

@@ -12,7 +12,7 @@ use Rattle.regular.specs.PlanLists.{wantedRecordsFaults}
 use Rattle.regular.specs.Book.{WritesDesigns}
 use Rattle.regular.specs.declared.Design.{Design}
 use Rattle.plan_lists.specs.Accepted.{AcceptedRecords, records-accepted, records-most}
-use Rattle.book.specs.Writing.{entryLength, Begins, Written, Adds}
+use Rattle.book.specs.Writing.{entryLength, Opened, Written, Adds}
 use Rattle.book.specs.WritingLaws.{entry-room, refusal-none, begun-room, written-none, written-more, written-size, writes-refused, writes-book}
 
 -- the sizes of a list that is accepted
@@ -30,12 +30,12 @@ pub record Progress (n g r : ℕ) (list : List Design) (v w : List ℕ) (i numbe
   pub own : Lowest (wantedRecordsFaults n g r list) first
   pub start : List ℕ
   pub at : ℕ
-  pub begins : Begins n g r (length list) first v start number at
+  pub begins : Opened n g r (length list) first v start number at
   pub refused : 0 < number → (used ≡ at) × (w ≡ start)
   pub going : number ≡ 0 → Written n g (λ j. getD list j blank .columns) i start w used
 
 pub progress-start : {n g r first number used : ℕ} {list : List Design} {v w : List ℕ} → Lowest (wantedRecordsFaults n g r list) first
-    → Begins n g r (length list) first v w number used → Progress n g r list v w 0 number used
+    → Opened n g r (length list) first v w number used → Progress n g r list v w 0 number used
 progress-start {n} {g} {r} {first} {number} {used} {list} {v} {w} own b = record {
   first = first;
   own = own;
@@ -67,7 +67,7 @@ module _ {n g r : ℕ} {list : List Design} {v w : List ℕ} {i number used : �
         own = x .own;
         start = x .start;
         at = x .at;
-        begins = subst (λ (m : ℕ). Begins n g r (length list) (x .first) v (x .start) m (x .at)) (e ∙ sym (p .0)) (x .begins);
+        begins = subst (λ (m : ℕ). Opened n g r (length list) (x .first) v (x .start) m (x .at)) (e ∙ sym (p .0)) (x .begins);
         refused = λ h. absurd (omega (arith, p .0));
         going = λ _. written-more (x .going e) refl (λ q z. z) (p .1);
       })
@@ -76,7 +76,7 @@ module _ {n g r : ℕ} {list : List Design} {v w : List ℕ} {i number used : �
         own = x .own;
         start = x .start;
         at = x .at;
-        begins = subst (λ (m : ℕ). Begins n g r (length list) (x .first) v (x .start) m (x .at)) (sym (p .0)) (x .begins);
+        begins = subst (λ (m : ℕ). Opened n g r (length list) (x .first) v (x .start) m (x .at)) (sym (p .0)) (x .begins);
         refused = λ _. let q = x .refused (omega arith) in (p .1 ∙ q .0, p .2 ∙ q .1);
         going = λ e. absurd (ne (sym (p .0) ∙ e));
       })
@@ -88,4 +88,4 @@ module _ {n g r : ℕ} {list : List Design} {v w : List ℕ} {i number used : �
       (writes-book (records-most n g r list) (x .own) (x .begins) z (subst (λ (m : ℕ). Written n g (columnsOf list) m (x .start) w used) e (x .going z))))
       (λ ne. let q = x .refused (omega arith) in
       writes-refused (records-most n g r list) (x .own)
-      (subst (λ (m : ℕ). Begins n g r (length list) (x .first) v w number m) (sym (q .0)) (subst (λ (l : List ℕ). Begins n g r (length list) (x .first) v l number (x .at)) (sym (q .1)) (x .begins))) ne)
+      (subst (λ (m : ℕ). Opened n g r (length list) (x .first) v w number m) (sym (q .0)) (subst (λ (l : List ℕ). Opened n g r (length list) (x .first) v l number (x .at)) (sym (q .1)) (x .begins))) ne)

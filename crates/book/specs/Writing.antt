@@ -37,7 +37,7 @@ pub record Refusal (n count number places k : ℕ) : Type 0 where
   pub lending : Lending low (bookLength n count) places k
 
 -- refused, and nothing written; or the header stands
-pub record Begins (n g r count number : ℕ) (v w : List ℕ) (k used : ℕ) : Type 0 where
+pub record Opened (n g r count number : ℕ) (v w : List ℕ) (k used : ℕ) : Type 0 where
   pub refusal : Refusal n count number (length v) k
   pub refused : 0 < k → (used ≡ 0) × (w ≡ v)
   pub begun : k ≡ 0 → (used ≡ headerLength) × (w ≡ over 0 (header n g r count) v)

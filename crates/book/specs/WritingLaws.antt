@@ -21,7 +21,7 @@ use Rattle.counts.specs.Patterns.{pattern-unique}
 use Rattle.regular.specs.Book.{lowFirst, each, header, headerLength, columnsRecord, patternRecord, bookLength, Book, CountFault, bookFaults, Writes}
 use Rattle.book.specs.Over.{over, over-none, over-one, over-then, over-length, over-begins, over-rest}
 use Rattle.lent.specs.Lending.{lending-lowest, lending-accepted}
-use Rattle.book.specs.Writing.{entryRecords, entryLength, PutEntry, Refusal, Begins, Written}
+use Rattle.book.specs.Writing.{entryRecords, entryLength, PutEntry, Refusal, Opened, Written}
 
 -- parts one after another
 pub each-more : (F : ℕ → List ℕ) (k : ℕ) → each F (k + 1) ≡ each F k ++ F k
@@ -185,14 +185,14 @@ refusal-none n count number places k e f =
     record { plans = z .0; few = count-few count (f .many) (z .1) (f .counted); room = l .1 }
 
 -- after the header the room is as before
-pub begun-room : {n g r count number k used : ℕ} {v w : List ℕ} → Begins n g r count number v w k used → k ≡ 0 → bookLength n count ≤ length w
+pub begun-room : {n g r count number k used : ℕ} {v w : List ℕ} → Opened n g r count number v w k used → k ≡ 0 → bookLength n count ≤ length w
 begun-room {n} {g} {r} {count} {number} {k} {used} {v} {w} b e =
     let z = refusal-none n count number (length v) k e (b .refusal) in
     omega (arith, z .room, ap length (b .begun e .1), over-length 0 (header n g r count) v (omega (arith, z .room)))
 
 -- a refused call
 pub writes-refused : {plans : ℕ → Type 0} {n g r count number k used : ℕ} {columns : ℕ → List ℕ} {v w : List ℕ} → ((j : ℕ) → plans j → j ≤ 7) → Lowest plans number
-    → Begins n g r count number v w k used → (k ≡ 0 → ⊥) → Writes plans n g r count columns v w k used
+    → Opened n g r count number v w k used → (k ≡ 0 → ⊥) → Writes plans n g r count columns v w k used
 writes-refused {plans} {n} {g} {r} {count} {number} {k} {used} {columns} {v} {w} most own b some =
     let z = b .refused (omega arith) in
     record {
@@ -206,7 +206,7 @@ writes-refused {plans} {n} {g} {r} {count} {number} {k} {used} {columns} {v} {w}
 
 -- an accepted one: the header, then the entries
 pub writes-book : {plans : ℕ → Type 0} {n g r count number k used at : ℕ} {columns : ℕ → List ℕ} {v w u : List ℕ} → ((j : ℕ) → plans j → j ≤ 7) → Lowest plans number
-    → Begins n g r count number v w k used → k ≡ 0 → Written n g columns count w u at → Writes plans n g r count columns v u 0 at
+    → Opened n g r count number v w k used → k ≡ 0 → Written n g columns count w u at → Writes plans n g r count columns v u 0 at
 writes-book {plans} {n} {g} {r} {count} {number} {k} {used} {at} {columns} {v} {w} {u} most own b e x = record {
   lowest = subst (Lowest (bookFaults plans n count v)) e (refusal-lowest plans n count number k v most own (b .refusal));
   refused = λ h. absurd (omega arith);

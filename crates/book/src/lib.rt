@@ -10,7 +10,7 @@ ghost use Rattle.plan_lists.specs.Accepted.{AcceptedPlans};
 ghost use Rattle.regular.specs.Book.{lowFirst, each, columnsRecord, patternRecord, header, bookLength, CountFault, WritesPlans, WritesDesigns};
 ghost use Rattle.admission.specs.Admission.{Ready};
 ghost use Rattle.book.specs.Over.{over};
-ghost use Rattle.book.specs.Writing.{entryLength, PutEntry, Refusal, Begins, Adds, PlansWritten};
+ghost use Rattle.book.specs.Writing.{entryLength, PutEntry, Refusal, Opened, Adds, PlansWritten};
 use admission::lower_of;
 use regular::BookAnswer;
 use regular::Design;
@@ -139,7 +139,7 @@ fn refusal(n: usize, count: usize, number: u8, places: usize) -> u8
 // The header, if nothing is refused; the answer's count is the place after it.
 fn begin(n: usize, g: usize, r: usize, count: usize, number: u8, out: &mut [u8]) -> BookAnswer
     requires { ⌜ (number ≡ 0 → ((n ≤ 16) × (g ≤ 16) × (r ≤ 16))) ⌝ }
-    ensures { λ res. ⌜ Begins n g r count number (now (out .entry)) (now (out .exit)) (res .number) (res .count) ⌝ }
+    ensures { λ res. ⌜ Opened n g r count number (now (out .entry)) (now (out .exit)) (res .number) (res .count) ⌝ }
 {
     let refused = refusal(n, count, number, out.len());
     if refused != 0 {

@@ -10,8 +10,9 @@ use native.Mathlib.Omega.{arith}
 use borrow.Author.Tests.{lt-ltb, eq-eqb, ne-eqb}
 use lib.Dec.{eqb}
 use lib.ListN.{length, getD}
-use Rattle.regular.specs.Refusals.{SizeFault, ResolutionFault, RoomFault, Lowest, sizeFaults}
-use Rattle.regular.specs.RefusalLaws.{lowest-none, lowest-at, lowest-first, lowest-then}
+use Rattle.regular.specs.Accepted.{sizes-accepted}
+use Rattle.regular.specs.Refusals.{RoomFault, Lowest, sizeFaults}
+use Rattle.regular.specs.RefusalLaws.{lowest-none, none-lowest, lowest-at, lowest-first, lowest-then}
 use Rattle.regular.specs.Smallest.{Equal, Entry, Catalogue}
 use Rattle.regular.specs.Catalogues.{Catalogues}
 use Rattle.smallest_laws.specs.Dictionary.{equal-sym, equal-before, before-equal, equal-trans}
@@ -25,73 +26,14 @@ use Rattle.catalogue_laws.specs.Walked.{Begun, edge, catalogued, begun-room, be
 use Rattle.entries.specs.declared.Trail.{Trail}
 use Rattle.entries.specs.Tracing.{Followed}
 use Rattle.entries.specs.Stepping.{Stepped}
-use Rattle.catalogue.specs.Sized.{Sized}
+use Rattle.regular.specs.Sizes.{Sized}
 use Rattle.catalogue.specs.Turns.{from, Goes, Stops, Turned, Progress}
 
 pub clash : true ≡ false → ⊥
 clash e = let z : _≡_ {A = ℕ} 0 1 = cc in omega arith
 
--- the sizes are met in the order of the numbers
-abbrev SizeAt : ℕ → ℕ → ℕ → Type 0
-SizeAt n g k = (h : ℕ) → SizeFault n g h → k ≤ h
-
-size-least : (n g h : ℕ) → SizeFault n g h → 1 ≤ h
-size-least n g h (SizeFault.factors p) = omega arith
-size-least n g h (SizeFault.generators p) = omega arith
-
-size-next : (n g h : ℕ) → 1 ≤ n → n ≤ 16 → SizeFault n g h → 2 ≤ h
-size-next n g h a b (SizeFault.factors (inl p)) = absurd (omega arith)
-size-next n g h a b (SizeFault.factors (inr p)) = absurd (omega arith)
-size-next n g h a b (SizeFault.generators p) = omega arith
-
-size-never : (n g h : ℕ) → 1 ≤ n → n ≤ 16 → g < n → n - g ≤ 7 → SizeFault n g h → ⊥
-size-never n g h a b c d (SizeFault.factors (inl p)) = omega arith
-size-never n g h a b c d (SizeFault.factors (inr p)) = omega arith
-size-never n g h a b c d (SizeFault.generators (inl p)) = omega arith
-size-never n g h a b c d (SizeFault.generators (inr p)) = omega arith
-
-resolution-is : (r h : ℕ) → ResolutionFault r h → h ≡ 3
-resolution-is r h (ResolutionFault.outside p) = refl
-
-resolution-never : (r h : ℕ) → 3 ≤ r → r ≤ 16 → ResolutionFault r h → ⊥
-resolution-never r h a b (ResolutionFault.outside (inl p)) = omega arith
-resolution-never r h a b (ResolutionFault.outside (inr p)) = omega arith
-
--- what the sizes' number says
-abbrev pub Says : ℕ → ℕ → ℕ → ℕ → Type 0
-Says n g r k = Lowest (sizeFaults n g r) k × (k ≡ 0 → Sized n g r) × (k ≤ 3)
-
-pub says-1 : (n g r : ℕ) → (n < 1) ⊎ (16 < n) → Says n g r 1
-says-1 n g r h = (
-  lowest-at (sizeFaults n g r) 1 (omega arith) (inl (SizeFault.factors h)) (λ k f. ⊎-elim (λ e. size-least n g k e) (λ e. omega (arith, resolution-is r k e)) f),
-  (λ e. absurd (omega arith)),
-  omega arith,
-)
-
-pub says-2 : (n g r : ℕ) → 1 ≤ n → n ≤ 16 → (n ≤ g) ⊎ (7 < n - g) → Says n g r 2
-says-2 n g r a b h = (
-  lowest-at (sizeFaults n g r) 2 (omega arith) (inl (SizeFault.generators h)) (λ k f. ⊎-elim (λ e. size-next n g k a b e) (λ e. omega (arith, resolution-is r k e)) f),
-  (λ e. absurd (omega arith)),
-  omega arith,
-)
-
-pub says-3 : (n g r : ℕ) → 1 ≤ n → n ≤ 16 → g < n → n - g ≤ 7 → (r < 3) ⊎ (16 < r) → Says n g r 3
-says-3 n g r a b c d h = (
-  lowest-at (sizeFaults n g r) 3 (omega arith) (inr (ResolutionFault.outside h)) (λ k f. ⊎-elim (λ e. absurd (size-never n g k a b c d e)) (λ e. omega (arith, resolution-is r k e)) f),
-  (λ e. absurd (omega arith)),
-  omega arith,
-)
-
 sized-never : (n g r : ℕ) → Sized n g r → (h : ℕ) → sizeFaults n g r h → ⊥
-sized-never n g r s h f = ⊎-elim (λ e. size-never n g h (s .size .some) (s .size .most) (s .size .less) (s .size .few) e) (λ e. resolution-never r h (s .low) (s .high) e) f
-
-pub sized-lowest : (n g r : ℕ) → Sized n g r → Lowest (sizeFaults n g r) 0
-sized-lowest n g r s = lowest-none (sizeFaults n g r) (sized-never n g r s)
-
-pub says-0 : (n g r : ℕ) → 1 ≤ n → n ≤ 16 → g < n → n - g ≤ 7 → 3 ≤ r → r ≤ 16 → Says n g r 0
-says-0 n g r a b c d e f =
-    let s : Sized n g r = record { size = record { some = a; most = b; less = c; few = d }; low = e; high = f } in
-    (sized-lowest n g r s, (λ _. s), omega arith)
+sized-never n g r s h f = none-lowest (sizeFaults n g r) (sizes-accepted n g r s) h f
 
 -- what a turn answers
 module _ (n g r i : ℕ) (room : Bool) (c : List ℕ) where
@@ -178,7 +120,7 @@ module _ (n g r : ℕ) (room : ℕ → Type 0) (down : (a b : ℕ) → b ≤ a �
 
   stop-ended : Sized n g r → ((e : List ℕ) → Entry n (n - g) r e → from i n c ≤ value n e → ⊥) → Catalogues n g r room entry 0 i
   stop-ended s none = record {
-    lowest = lowest-then (sizeFaults n g r) (RoomFault n (n - g) r room) 0 (sized-lowest n g r s) (lowest-none (RoomFault n (n - g) r room) never);
+    lowest = lowest-then (sizeFaults n g r) (RoomFault n (n - g) r room) 0 (sizes-accepted n g r s) (lowest-none (RoomFault n (n - g) r room) never);
     whole = λ _. catalogue-equal n (n - g) r i all entry same k;
     fits = λ _. here;
     begins = λ e. absurd (omega arith);
@@ -193,7 +135,7 @@ module _ (n g r : ℕ) (room : ℕ → Type 0) (down : (a b : ℕ) → b ≤ a �
 
   stop-full : Sized n g r → (room (suc i) → ⊥) → (d : List ℕ) → First n (n - g) r (from i n c) d → Catalogues n g r room entry 9 i
   stop-full s past d f = record {
-    lowest = lowest-then (sizeFaults n g r) (RoomFault n (n - g) r room) 9 (sized-lowest n g r s)
+    lowest = lowest-then (sizeFaults n g r) (RoomFault n (n - g) r room) 9 (sizes-accepted n g r s)
         (lowest-at (RoomFault n (n - g) r room) 9 (omega arith)
         (RoomFault.more (length (entries n (n - g) r)) (λ j. getD (entries n (n - g) r) j []) (model-catalogue n (n - g) r) (λ h. past (down (length (entries n (n - g) r)) (suc i) more h)))
         is-9);

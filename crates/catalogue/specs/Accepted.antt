@@ -1,11 +1,10 @@
 -- An accepted call's list meets demand 3 whole; so the entries are those of the catalogue, and of no other list.
 use mathlib.Core.Path.{_≡_, subst}
-use mathlib.Core.Logic.{inl, inr, by-cases}
+use mathlib.Core.Logic.{inl}
 use mathlib.Core.List.{List}
-use Prim.Native.Nat.{ℕ, _-_, _≤_, _<_}
-use native.Mathlib.Decide.{decLt}
-use native.Mathlib.Omega.{arith}
-use Rattle.regular.specs.Refusals.{ResolutionFault, Lowest}
+use Prim.Native.Nat.{ℕ, _-_, _≤_}
+use Rattle.regular.specs.Accepted.{accepted-sizes}
+use Rattle.regular.specs.Refusals.{Lowest}
 use Rattle.regular.specs.RefusalLaws.{none-lowest}
 use Rattle.regular.specs.Catalogues.{catalogueFaults, Catalogues}
 use Rattle.catalogue_laws.specs.Demand.{Whole, whole}
@@ -14,7 +13,4 @@ pub accepted-whole : (n g r : ℕ) (room : ℕ → Type 0) (entry : ℕ → List
 accepted-whole n g r room entry number count c e = whole n (n - g) r count entry low (c .whole e)
   where
     low : 3 ≤ r
-    low =
-        by-cases (decLt r 3)
-        (λ h. absurd (none-lowest (catalogueFaults n g r room) (subst (λ (k : ℕ). Lowest (catalogueFaults n g r room) k) e (c .lowest)) 3 (inl (inr (ResolutionFault.outside (inl h))))))
-        (λ h. omega arith)
+    low = accepted-sizes n g r (λ k f. none-lowest (catalogueFaults n g r room) (subst (λ (k : ℕ). Lowest (catalogueFaults n g r room) k) e (c .lowest)) k (inl f)) .low

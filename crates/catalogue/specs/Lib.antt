@@ -1,4 +1,3 @@
-pub mod Sized
 pub mod Turns
 pub mod Records
 pub mod Accepted

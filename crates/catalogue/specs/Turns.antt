@@ -12,7 +12,7 @@ use Rattle.catalogue_laws.specs.Steps.{Held, First, bound}
 use Rattle.catalogue_laws.specs.Walked.{Begun, edge}
 use Rattle.entries.specs.declared.Trail.{Trail}
 use Rattle.entries.specs.Tracing.{Followed}
-use Rattle.catalogue.specs.Sized.{Sized}
+use Rattle.regular.specs.Sizes.{Sized}
 
 -- where the search for the i-th entry starts, c being the one before it
 abbrev pub from : ℕ → ℕ → List ℕ → ℕ

@@ -4,13 +4,12 @@ ghost use mathlib.Core.Bool.{true, false};
 ghost use Prim.Native.Nat.{ℕ, _+_, _<_, _≤_};
 ghost use mathlib.Core.List.{[]};
 ghost use lib.ListN.{length};
-ghost use Rattle.regular.specs.Refusals.{Lowest, sizeFaults};
-ghost use Rattle.catalogue.specs.Sized.{Sized};
 ghost use Rattle.regular.specs.Designs.{blank};
 ghost use Rattle.entries.specs.Tracing.{Followed};
 ghost use Rattle.catalogue.specs.Turns.{Going, Turned, Put};
 ghost use Rattle.catalogue.specs.Records.{Stepped};
 ghost use Rattle.regular.specs.Catalogues.{ListsBytes, ListsDesigns};
+use admission::bounds_number;
 use entries::Trail;
 use entries::next_entry;
 use entries::trailhead;
@@ -23,31 +22,6 @@ struct Turn {
     number: u8,
     columns: [u8; 16],
     trail: Trail,
-}
-
-// 1, 2 or 3 if the sizes or the resolution are out of bounds, else 0.
-fn sizes(n: usize, g: usize, r: usize) -> u8
-    ensures { λ res. ⌜ Lowest (sizeFaults n g r) res × (res ≡ 0 → Sized n g r) × (res ≤ 3) ⌝ }
-{
-    if n < 1 {
-        return 1;
-    }
-    if 16 < n {
-        return 1;
-    }
-    if n <= g {
-        return 2;
-    }
-    if 7 < n - g {
-        return 2;
-    }
-    if r < 3 {
-        return 3;
-    }
-    if 16 < r {
-        return 3;
-    }
-    0
 }
 
 // A turn of its parts.
@@ -67,7 +41,7 @@ fn advance(n: usize, g: usize, r: usize, i: usize, room: bool, c: [u8; 16], trai
     requires { ⌜ Going n g r i c trail ⌝ }
     ensures { λ res. ⌜ Turned n g r i room c (res .found) (res .number) (res .columns) (res .trail) ⌝ }
 {
-    let number = sizes(n, g, r);
+    let number = bounds_number(n, g, r);
     if number != 0 {
         return outcome(false, number, c, trail);
     }

@@ -57,7 +57,7 @@ module _ (n m r count : ℕ) (entry : ℕ → List ℕ) (k : Catalogue n m r cou
       }
 
 -- the plan of columns as a run table
-plan-runs : (n m : ℕ) (c : List ℕ) → Agree (planOf n m c) (runsOf (runTable n m c))
+pub plan-runs : (n m : ℕ) (c : List ℕ) → Agree (planOf n m c) (runsOf (runTable n m c))
 plan-runs n m c = record {
   into = λ x p. subst (λ (y : ℕ). In y (runTable n m c)) (sym (p .1 .1)) (in-to (runOf c n) (2 ^ m) (p .0) (p .1 .0));
   onto = λ x i. of-to (runOf c n) (2 ^ m) x i;

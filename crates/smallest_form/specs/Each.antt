@@ -18,7 +18,7 @@ use Rattle.regular.specs.Smallest.{Smallest}
 use Rattle.regular.specs.SmallestAnswers.{ReducesEach}
 
 -- the smallest form of the plan of the columns, and a witness to it, in lists of n places
-pub record Reduced (n m : ℕ) (columns filled exit : List ℕ) : Type 0 where
+pub record ReducedForm (n m : ℕ) (columns filled exit : List ℕ) : Type 0 where
   pub smallest : Smallest n m (planOf n m columns) filled
   pub witness : Carries n (planOf n m columns) (planOf n m filled) exit 0
   pub size : (length filled ≡ n) × (length exit ≡ n)
@@ -28,7 +28,7 @@ pub record ReducedTo (n m : ℕ) (plans : List ℕ) (base : ℕ) (out filled ent
   pub count : ℕ
   pub place : base ≡ count * n
   pub within : base ≤ length plans
-  pub each : (i : ℕ) → i < count → Reduced n m (planAt n plans i) (planAt n filled i) (planAt n exit i)
+  pub each : (i : ℕ) → i < count → ReducedForm n m (planAt n plans i) (planAt n filled i) (planAt n exit i)
   pub rest : (drop base filled ≡ drop base out) × (drop base exit ≡ drop base entry)
   pub size : (length filled ≡ length out) × (length exit ≡ length entry)
 
@@ -103,7 +103,7 @@ module _ (n g : ℕ) (plans : List ℕ) (low : Lowest (plansFaults n g plans) 0)
       reduced-accepted : Lowest (columnsFaults n g (take n (drop base plans))) 0
       reduced-accepted = subst (λ (b : ℕ). Lowest (columnsFaults n g (take n (drop b plans))) 0) (sym (t .place)) (plan-accepted (t .count) next)
 
-      reduced-more : (form names : List ℕ) → Reduced n (n - g) (take n (drop base plans)) form names
+      reduced-more : (form names : List ℕ) → ReducedForm n (n - g) (take n (drop base plans)) form names
           → ReducedTo n (n - g) plans (base + n) out (splice base n filled form) entry (splice base n exit names)
       reduced-more form names r = record {
         count = suc (t .count);
@@ -120,21 +120,21 @@ module _ (n g : ℕ) (plans : List ℕ) (low : Lowest (plansFaults n g plans) 0)
           farther : (a b : List ℕ) → drop base a ≡ drop base b → drop (base + n) a ≡ drop (base + n) b
           farther a b e = sym (drop-drop n base a) ∙ ap (drop n) e ∙ drop-drop n base b
 
-          each : (i : ℕ) → i < suc (t .count) → Reduced n (n - g) (planAt n plans i) (planAt n (splice base n filled form) i) (planAt n (splice base n exit names) i)
+          each : (i : ℕ) → i < suc (t .count) → ReducedForm n (n - g) (planAt n plans i) (planAt n (splice base n filled form) i) (planAt n (splice base n exit names) i)
           each i l = by-cases (ℕ-discrete i (t .count)) last earlier
             where
-              last : i ≡ t .count → Reduced n (n - g) (planAt n plans i) (planAt n (splice base n filled form) i) (planAt n (splice base n exit names) i)
+              last : i ≡ t .count → ReducedForm n (n - g) (planAt n plans i) (planAt n (splice base n filled form) i) (planAt n (splice base n exit names) i)
               last q =
                   let at : base ≡ i * n = t .place ∙ ap (λ (k : ℕ). k * n) (sym q) in
-                  subst (λ (b : ℕ). Reduced n (n - g) (take n (drop b plans)) (take n (drop b (splice base n filled form))) (take n (drop b (splice base n exit names)))) at
-                  (subst (λ (c : List ℕ). Reduced n (n - g) (take n (drop base plans)) c (take n (drop base (splice base n exit names)))) (sym (splice-part base n filled form (reduced-fits .0) (r .size .0)))
-                  (subst (Reduced n (n - g) (take n (drop base plans)) form) (sym (splice-part base n exit names (reduced-fits .1) (r .size .1))) r))
+                  subst (λ (b : ℕ). ReducedForm n (n - g) (take n (drop b plans)) (take n (drop b (splice base n filled form))) (take n (drop b (splice base n exit names)))) at
+                  (subst (λ (c : List ℕ). ReducedForm n (n - g) (take n (drop base plans)) c (take n (drop base (splice base n exit names)))) (sym (splice-part base n filled form (reduced-fits .0) (r .size .0)))
+                  (subst (ReducedForm n (n - g) (take n (drop base plans)) form) (sym (splice-part base n exit names (reduced-fits .1) (r .size .1))) r))
 
-              earlier : (i ≡ t .count → ⊥) → Reduced n (n - g) (planAt n plans i) (planAt n (splice base n filled form) i) (planAt n (splice base n exit names) i)
+              earlier : (i ≡ t .count → ⊥) → ReducedForm n (n - g) (planAt n plans i) (planAt n (splice base n filled form) i) (planAt n (splice base n exit names) i)
               earlier ne =
                   let under : suc i * n ≤ base = omega (arith, t .place, mul-le-mul-right {m = suc i} {n = t .count} n (omega arith)) in
-                  subst (λ (c : List ℕ). Reduced n (n - g) (planAt n plans i) c (planAt n (splice base n exit names) i)) (sym (splice-plan n base filled form (reduced-fits .0) (r .size .0) i under))
-                  (subst (Reduced n (n - g) (planAt n plans i) (planAt n filled i)) (sym (splice-plan n base exit names (reduced-fits .1) (r .size .1) i under)) (t .each i (omega arith)))
+                  subst (λ (c : List ℕ). ReducedForm n (n - g) (planAt n plans i) c (planAt n (splice base n exit names) i)) (sym (splice-plan n base filled form (reduced-fits .0) (r .size .0) i under))
+                  (subst (ReducedForm n (n - g) (planAt n plans i) (planAt n filled i)) (sym (splice-plan n base exit names (reduced-fits .1) (r .size .1) i under)) (t .each i (omega arith)))
 
       -- a turn, on the k places from base on
       module _ (k : ℕ) (e : k ≡ n) where
@@ -144,11 +144,11 @@ module _ (n g : ℕ) (plans : List ℕ) (low : Lowest (plansFaults n g plans) 0)
         pub turn-place : (xs : List ℕ) → base + n ≤ length xs → length (take k (drop base xs)) ≡ n
         turn-place xs h = length-take-le k (drop base xs) (omega (arith, length-drop base xs)) ∙ e
 
-        pub turn-more : (form names : List ℕ) → Reduced n (n - g) (take k (drop base plans)) form names
+        pub turn-more : (form names : List ℕ) → ReducedForm n (n - g) (take k (drop base plans)) form names
             → ReducedTo n (n - g) plans (base + n) out (splice base k filled form) entry (splice base k exit names)
         turn-more form names r =
             subst (λ (j : ℕ). ReducedTo n (n - g) plans (base + n) out (splice base j filled form) entry (splice base j exit names)) (sym e)
-            (reduced-more form names (subst (λ (j : ℕ). Reduced n (n - g) (take j (drop base plans)) form names) e r))
+            (reduced-more form names (subst (λ (j : ℕ). ReducedForm n (n - g) (take j (drop base plans)) form names) e r))
 
 -- the call's answer
 pub each-refused : (fault : ℕ → Type 0) (n m : ℕ) (plans out entry : List ℕ) (k : ℕ) → (k ≡ 0 → ⊥) → Lowest fault k → ReducesEach fault n m plans out out entry entry k

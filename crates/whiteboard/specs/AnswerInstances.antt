@@ -93,6 +93,7 @@ hands-second = record {
   where
     both : ℕ → Type 0
     both = either (wordsFaults 4 1 (7 ∷ [])) (wordsFaults 4 1 (15 ∷ []))
+
     accepted : Lowest both 0
     accepted = lowest-then (wordsFaults 4 1 (7 ∷ [])) (wordsFaults 4 1 (15 ∷ [])) 0 accepted-words accepted-word-abcd
 
@@ -106,6 +107,7 @@ hands-empty = record {
   where
     both : ℕ → Type 0
     both = either (wordsFaults 3 1 (3 ∷ [])) (wordsFaults 3 1 (3 ∷ []))
+
     refused : Lowest both 7
     refused = twice (wordsFaults 3 1 (3 ∷ [])) 7 (omega arith) refusal-7
 

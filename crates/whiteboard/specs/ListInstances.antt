@@ -135,6 +135,7 @@ lists-three = record {
   where
     three : (k : ℕ) → ResolutionFault 2 k → 3 ≤ k
     three k (ResolutionFault.outside h) = omega arith
+
     nine : (k : ℕ) → RoomFault 4 3 2 (λ k. k * 4 ≤ 1) k → 3 ≤ k
     nine k (RoomFault.more total all c n) = omega arith
 
@@ -222,6 +223,7 @@ records-wanted k f =
   where
     holds : (i : ℕ) → i < 2 → Holds 4 3 (Entry 4 3 3) (getD twoRecords i blank)
     holds i h = by-cases (ℕ-discrete i 0) (λ e. rw e holds-abcd) (λ ne. let e : i ≡ 1 = omega arith in rw e holds-abc)
+
     long : (d : Design) → Holds 4 3 (Entry 4 3 3) d → (k : ℕ) → WantedFault 4 3 (planOf 4 3 (d .columns)) k → ⊥
     long d e k (WantedFault.short h) = omega (arith, h .few, e .columns .long (h .word) (h .is))
 

@@ -3,12 +3,12 @@
 use mathlib.Core.Path.{_≡_, refl, sym, ap, subst, _∙_}
 use mathlib.Core.Logic.{⊎-elim, inl, inr, by-cases}
 use mathlib.Core.List.{List, [], _∷_, _++_}
-use Prim.Native.Nat.{ℕ, zero, suc, _-_, _≤_, _<_}
+use Prim.Native.Nat.{ℕ, zero, suc, _-_, _^_, _≤_, _<_}
 use native.Mathlib.Omega.{arith}
 use native.Mathlib.Decide.{ℕ-discrete}
 use borrow.Author.Tests.{ltb-true}
 use lib.Count.{ones, onesIn}
-use lib.Dec.{ltb}
+use lib.Dec.{ltb, lit≤}
 use lib.ListN.{length, getD, replicate}
 use Rattle.gf2.specs.Digits.{odd}
 use Rattle.gf2.specs.Fill.{zeros}
@@ -30,7 +30,6 @@ use Rattle.standard.specs.Runs.{total-lt}
 use Rattle.standard.specs.Units.{spread, unitsAt}
 use Rattle.words.specs.Model.{wordColumns, pivotsAt, freeBefore, reduced, lastOf}
 use Rattle.words.specs.ReducedWords.{words-columns-words}
-use Rattle.words.specs.Standards.{standard-form}
 use Rattle.words.specs.Switches.{pattern-agree}
 use Rattle.words.specs.WordList.{wordsTo}
 use Rattle.counts.specs.Patterns.{pattern-unique}
@@ -185,7 +184,15 @@ run-table-of-abc = record { columns = abc; standard = standard-abc; table = run-
 
 -- the forms that the functions hand on: standard form, no column 0 or twice, every unit a column
 pub standard-form-abc : StandardFor 4 3 (Generated 4 1 (7 ∷ [])) abc
-standard-form-abc = standard-form 4 3 (Generated 4 1 (7 ∷ [])) abc standard-abc spans-abc
+unfolding unitsBefore
+standard-form-abc = record { form = record { next = next-abc; units = refl }; plan = standard-abc .plan }
+  where
+    next-abc : (f : ℕ) → f < 4 → getD abc f 0 ≤ 2 ^ unitsBefore abc f
+    next-abc zero h = lit≤ tt
+    next-abc (suc zero) h = lit≤ tt
+    next-abc (suc (suc zero)) h = lit≤ tt
+    next-abc (suc (suc (suc zero))) h = lit≤ tt
+    next-abc (suc (suc (suc (suc f)))) h = absurd (omega arith)
 
 pub plain-abc : Plain 4 abc
 plain-abc = rising-plain 4 3 abc (catalogue-4 .sound 0 (omega arith) .smallest .columns)
@@ -311,7 +318,7 @@ different-abc-abcd k =
     omega (
       arith,
       pattern-unique 4 (planOf 4 3 abcd) (0 ∷ 0 ∷ 1 ∷ 0 ∷ []) (0 ∷ 0 ∷ 0 ∷ 1 ∷ [])
-      (same-pattern 4 (planOf 4 3 abc) (planOf 4 3 abcd) k (0 ∷ 0 ∷ 1 ∷ 0 ∷ []) pattern-abc) pattern-abcd 3 (omega arith) (omega arith),
+          (same-pattern 4 (planOf 4 3 abc) (planOf 4 3 abcd) k (0 ∷ 0 ∷ 1 ∷ 0 ∷ []) pattern-abc) pattern-abcd 3 (omega arith) (omega arith),
     )
 
 -- the smallest form, and rising columns of the same plan that are not it: BCD for ABC

@@ -45,6 +45,7 @@ refusal-1 = lowest-at (wordsFaults 17 1 (7 ∷ [])) 1 (omega arith) (inl (SizeFa
     size : (k : ℕ) → SizeFault 17 1 k → 1 ≤ k
     size k (SizeFault.factors h) = omega arith
     size k (SizeFault.generators h) = omega arith
+
     least : (k : ℕ) → wordsFaults 17 1 (7 ∷ []) k → 1 ≤ k
     least k f = ⊎-elim (size k) (λ w. omega (arith, words-least 17 1 (7 ∷ []) k w)) f
 
@@ -55,6 +56,7 @@ refusal-2 = lowest-at (wordsFaults 9 1 (7 ∷ [])) 2 (omega arith) (inl (SizeFau
     size : (k : ℕ) → SizeFault 9 1 k → 2 ≤ k
     size k (SizeFault.factors h) = ⊎-elim (λ l. absurd (omega arith)) (λ l. absurd (omega arith)) h
     size k (SizeFault.generators h) = omega arith
+
     least : (k : ℕ) → wordsFaults 9 1 (7 ∷ []) k → 2 ≤ k
     least k f = ⊎-elim (size k) (λ w. omega (arith, words-least 9 1 (7 ∷ []) k w)) f
 
@@ -67,6 +69,7 @@ refusal-3 = lowest-at (sizeFaults 5 1 2) 3 (omega arith) (inr (ResolutionFault.o
   where
     wanted : (k : ℕ) → ResolutionFault 2 k → 3 ≤ k
     wanted k (ResolutionFault.outside h) = omega arith
+
     least : (k : ℕ) → sizeFaults 5 1 2 k → 3 ≤ k
     least k f = ⊎-elim (λ s. absurd (size-none 5 1 size-5 k s)) (wanted k) f
 
@@ -98,8 +101,10 @@ refusal-6 = words-lowest 4 2 (7 ∷ 7 ∷ []) 6 size (omega arith) (WordsFault.d
   where
     size : Size 4 2
     size = record { some = omega arith; most = omega arith; less = omega arith; few = omega arith }
+
     within : (i : ℕ) → i < 2 → getD (7 ∷ 7 ∷ []) i 0 < 16
     within i h = ltb-true (getD (7 ∷ 7 ∷ []) i 0) 16 (below-at (λ j. ltb (getD (7 ∷ 7 ∷ []) j 0) 16) 2 refl i h)
+
     least : (k : ℕ) → WordsFault 4 2 (7 ∷ 7 ∷ []) k → 6 ≤ k
     least k (WordsFault.count h) = absurd (h refl)
     least k (WordsFault.past i l h) = absurd (omega (arith, within i l))
@@ -113,8 +118,10 @@ refusal-7 = words-lowest 3 1 (3 ∷ []) 7 size-3 (omega arith) (WordsFault.short
   where
     word : Word 3 (Generated 3 1 (3 ∷ [])) 3
     word = record { some = omega arith; within = omega arith; constant = λ x y p q. p .even 0 (omega arith) ∙ sym (q .even 0 (omega arith)) }
+
     within : (i : ℕ) → i < 1 → getD (3 ∷ []) i 0 < 8
     within i h = ltb-true (getD (3 ∷ []) i 0) 8 (below-at (λ j. ltb (getD (3 ∷ []) j 0) 8) 1 refl i h)
+
     least : (k : ℕ) → WordsFault 3 1 (3 ∷ []) k → 7 ≤ k
     least k (WordsFault.count h) = absurd (h refl)
     least k (WordsFault.past i l h) = absurd (omega (arith, within i l))
@@ -147,13 +154,16 @@ one-word w c l p e a = lowest-none (wordsFaults 4 1 (w ∷ [])) (λ k f. ⊎-eli
   where
     within : (i : ℕ) → i < 1 → getD (w ∷ []) i 0 < 16
     within i h = let z : i ≡ 0 = omega arith in subst (λ (j : ℕ). getD (w ∷ []) j 0 < 16) (sym z) l
+
     independent : Independent 1 (w ∷ [])
     independent s h z = by-cases (ℕ-discrete s 0) (λ q. q) (λ ne. absurd (omega (arith, sym (total-unit (w ∷ []) 0 1 (omega arith)) ∙ sym (ap (total (w ∷ []) 1) (one s h ne)) ∙ z)))
       where
         one : (s : ℕ) → s < 2 ^ 1 → (s ≡ 0 → ⊥) → s ≡ 1
         one s h ne = omega arith
+
     long : NoShort 4 3 (Generated 4 1 (w ∷ []))
     long = no-short-agree 4 (planOf 4 3 c) (Generated 4 1 (w ∷ [])) (agree-sym (Generated 4 1 (w ∷ [])) (planOf 4 3 c) a) 3 (e .long)
+
     none : (k : ℕ) → WordsFault 4 1 (w ∷ []) k → ⊥
     none k (WordsFault.count h) = h refl
     none k (WordsFault.past i m h) = omega (arith, within i m)
@@ -206,6 +216,7 @@ refused-runs =
   where
     within : (x : ℕ) → In x (0 ∷ 1 ∷ 2 ∷ 4 ∷ []) → x < 8
     within x m = ltb-true x 8 (all-at (λ y. ltb y 8) (0 ∷ 1 ∷ 2 ∷ 4 ∷ []) refl x m)
+
     least : (k : ℕ) → TableFault 3 2 (0 ∷ 1 ∷ 2 ∷ 4 ∷ []) k → 6 ≤ k
     least k (TableFault.count h) = absurd (h refl)
     least k (TableFault.past x i h) = absurd (omega (arith, within x i))
@@ -237,6 +248,7 @@ refusal-9 =
   where
     wanted : (k : ℕ) → ResolutionFault 3 k → 9 ≤ k
     wanted k (ResolutionFault.outside h) = ⊎-elim (λ l. absurd (omega arith)) (λ l. absurd (omega arith)) h
+
     room : (k : ℕ) → RoomFault 5 4 3 (λ i. i ≤ 2) k → 9 ≤ k
     room k (RoomFault.more total all c h) = omega arith
 
@@ -290,6 +302,7 @@ fault-short = TableFault.short (record { word = 3; is = word; few = omega arith 
   where
     even : (x : ℕ) → In x (0 ∷ 3 ∷ []) → odd x 3 ≡ 0
     even x m = eqb-true (odd x 3) 0 (all-at (λ y. eqb (odd y 3) 0) (0 ∷ 3 ∷ []) refl x m)
+
     word : Word 2 (runsOf (0 ∷ 3 ∷ [])) 3
     word = record { some = omega arith; within = omega arith; constant = λ x y p q. even x p ∙ sym (even y q) }
 

@@ -6,7 +6,7 @@ use lib.ListN.{length}
 use Rattle.regular.specs.Refusals.{Lowest}
 use Rattle.regular.specs.PlanLists.{wantedPlansFaults}
 use Rattle.plan_lists.specs.Accepted.{plans-accepted, plans-most}
-use Rattle.book.specs.Writing.{Begins}
+use Rattle.book.specs.Writing.{Opened}
 use Rattle.book.specs.WritingLaws.{refusal-none, begun-room, writes-refused, writes-book}
 use Rattle.book.specs.PlanLaws.{plans-bounds, plans-all}
 use Rattle.book.proofs.write_book.Statement.{statement}
@@ -33,7 +33,7 @@ returns c =
     let s = b .before .before .before .before .before .before in
     let a = s .args in
     let p = b .before .before .before .plans-refusal in
-    let begun = subst (λ (k : ℕ). Begins (a .n) (a .g) (a .r) k (p .result) (a .out .now) (b .begin .last .1 .1 .1 .1 .1 .0) (b .begin .result .number) (b .begin .result .count)) (b .before .before .count-of .ensures) (b .begin .ensures) in
+    let begun = subst (λ (k : ℕ). Opened (a .n) (a .g) (a .r) k (p .result) (a .out .now) (b .begin .last .1 .1 .1 .1 .1 .0) (b .begin .result .number) (b .begin .result .count)) (b .before .before .count-of .ensures) (b .begin .ensures) in
     let most = plans-most (a .n) (a .g) (a .r) (a .plans .now) in
     writes-refused most (p .ensures) begun (c .if1 .taken)
 
@@ -43,7 +43,7 @@ put-plans-requires c κs =
     let s = b .before .before .before .before .before .before in
     let a = s .args in
     let p = b .before .before .before .plans-refusal in
-    let begun = subst (λ (k : ℕ). Begins (a .n) (a .g) (a .r) k (p .result) (a .out .now) (b .begin .last .1 .1 .1 .1 .1 .0) (b .begin .result .number) (b .begin .result .count)) (b .before .before .count-of .ensures) (b .begin .ensures) in
+    let begun = subst (λ (k : ℕ). Opened (a .n) (a .g) (a .r) k (p .result) (a .out .now) (b .begin .last .1 .1 .1 .1 .1 .0) (b .begin .result .number) (b .begin .result .count)) (b .before .before .count-of .ensures) (b .begin .ensures) in
     let most = plans-most (a .n) (a .g) (a .r) (a .plans .now) in
     let e = c .before .if1 .left in
     let z = refusal-none (a .n) (length (a .plans .now) / a .n) (p .result) (length (a .out .now)) (b .begin .result .number) e (begun .refusal) .plans in
@@ -59,7 +59,7 @@ returns-2 c =
     let s = b .before .before .before .before .before .before in
     let a = s .args in
     let p = b .before .before .before .plans-refusal in
-    let begun = subst (λ (k : ℕ). Begins (a .n) (a .g) (a .r) k (p .result) (a .out .now) (b .begin .last .1 .1 .1 .1 .1 .0) (b .begin .result .number) (b .begin .result .count)) (b .before .before .count-of .ensures) (b .begin .ensures) in
+    let begun = subst (λ (k : ℕ). Opened (a .n) (a .g) (a .r) k (p .result) (a .out .now) (b .begin .last .1 .1 .1 .1 .1 .0) (b .begin .result .number) (b .begin .result .count)) (b .before .before .count-of .ensures) (b .begin .ensures) in
     let most = plans-most (a .n) (a .g) (a .r) (a .plans .now) in
     let e = c .before .before .before .before .if1 .left in
     let z = refusal-none (a .n) (length (a .plans .now) / a .n) (p .result) (length (a .out .now)) (b .begin .result .number) e (begun .refusal) .plans in

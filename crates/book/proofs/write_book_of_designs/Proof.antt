@@ -59,7 +59,7 @@ use Rattle.regular.specs.Designs.{blank, offset-fits}
 use Rattle.regular.specs.Refusals.{Lowest, designFaults}
 use Rattle.regular.specs.PlanLists.{wantedRecordsFaults}
 use Rattle.regular.specs.Book.{WritesDesigns}
-use Rattle.book.specs.Writing.{entryLength, Begins, Adds}
+use Rattle.book.specs.Writing.{entryLength, Opened, Adds}
 use Rattle.book.specs.DesignLaws.{Progress, records-bounds, progress-start, progress-room, progress-more, progress-end}
 use Rattle.regular.proofs.Design as T
 use Rattle.regular.proofs.Design.Laws as T′
@@ -347,8 +347,8 @@ module _ {M : Type 1} (𝓤 : URA M) (H : Heap 𝓤) (A : Atoms 𝓤) (W : Given
           use2 W (raw (Beg 𝓤 H A mem′ run .pre (to-beg number α vs γ′))) (goes-beg number number-fits (records-bounds w g r number ys low) α vs γ′) $
           calls-at ! (fmOf 𝓤 H (W .laws) 𝓣) (Beg 𝓤 H A mem′ run) begun (to-beg number α vs γ′) (and-then ! (load ! (from ! (stop !)) (look ! 42 refl)) (and-then ! (load ! (from ! (stop !)) (look ! 40 refl)) (and-then ! (load ! (from ! (stop !)) (look ! 38 refl)) (and-then ! (load ! (from ! (stop !)) (look ! 24 refl)) (and-then ! (load ! (from ! (stop !)) (look ! 32 refl)) (and-then ! (load ! (from ! (stop !)) (look ! 20 refl)) (no-more !))))))) (λ v.
           use1 W (later (some (λ (u : BookAnswer). ((‵ (flft (α ∷ []) fullShare) ⊛ ‵ ftrue) ⊛ ‵ (R.the-row .own u (v ∷ [])))
-          ⊛ some (λ (ws : Lasts beg.ended ((α ∷ []), tt) (beg-args number vs γ′)). ‵ (lasts beg.ended ((α ∷ []), tt) (beg-args number vs γ′) ws) ⊛ raw (fact 𝓤 (Begins w g r n number vs (ws .1 .1 .1 .1 .1 .0) (u .number) (u .count))))))) (id⊢ 𝓤 _) $ await ! tt $ pick ! (λ u.
-          split ! $ move ! (1 ∷ []) $ pick ! (λ ws. split ! $ move ! (1 ∷ []) $ heard ! (Begins w g r n number vs (ws .1 .1 .1 .1 .1 .0) (u .number) (u .count)) (λ e.
+          ⊛ some (λ (ws : Lasts beg.ended ((α ∷ []), tt) (beg-args number vs γ′)). ‵ (lasts beg.ended ((α ∷ []), tt) (beg-args number vs γ′) ws) ⊛ raw (fact 𝓤 (Opened w g r n number vs (ws .1 .1 .1 .1 .1 .0) (u .number) (u .count))))))) (id⊢ 𝓤 _) $ await ! tt $ pick ! (λ u.
+          split ! $ move ! (1 ∷ []) $ pick ! (λ ws. split ! $ move ! (1 ∷ []) $ heard ! (Opened w g r n number vs (ws .1 .1 .1 .1 .1 .0) (u .number) (u .count)) (λ e.
           fsplit ! $ drop ! $ fsplit ! $ drop ! $ fsplit ! $ drop ! $ fsplit ! $ drop ! $ fsplit ! $ drop ! $ fsplit ! $ fsplit ! $ move ! (1 ∷ 2 ∷ []) $ drop ! $ drop ! $
           move ! (1 ∷ []) $ split ! $ split ! $ move ! (2 ∷ []) $ facts ! R.the-row (Is R.the-row) (shows 𝓤 H A R.the-row) u (v ∷ []) (λ is-u. move ! (1 ∷ []) $ drop ! $
           land ! (from ! (stop !)) (init ! 31 refl (LL.lawful R.the-type R′.the-laws 𝓤 H A W .typed u _ is-u .0)) $ rewrite ! 31 (λ (z : Val). ‵ (fat fullShare R′.mir l₇ 0 z)) (ap only (LL.tells R.the-type R′.the-laws u (v ∷ []) is-u)) refl $

@@ -51,7 +51,7 @@ use denote.Exit.{yes}
 use Rattle.regular.specs.declared.Design.{Design}
 use Rattle.regular.specs.declared.CatalogueAnswer.{CatalogueAnswer}
 use Rattle.entries.specs.Tracing.{Followed}
-use Rattle.regular.specs.Designs.{blank}
+use Rattle.regular.specs.Designs.{blank, offset-fits}
 use Rattle.catalogue.specs.declared.Listed.{Listed}
 use Rattle.catalogue.specs.declared.Stop.{Stop}
 use Rattle.regular.specs.Catalogues.{ListsDesigns}
@@ -82,10 +82,6 @@ use Rattle.catalogue.proofs.catalogue.Code.Mir as m
 
 abbrev stayed : Stays (f.ended .signature .params) (f.ended .kept)
 stayed = (stay-none (λ _. usize) yes, (stay-none (λ _. usize) yes, (stay-none (λ _. usize) yes, (stay-slice (0 ∷ []) tt (plain (λ _. T.the-row)), tt))))
-
--- the byte offset of an element within the list fits a usize
-offset-fits : (i n : ℕ) → i < n → n * 18 < 2 ^ 63 → i * 18 < 2 ^ 64
-offset-fits i n l r = lt-of-le-of-lt (mul-le-mul-right 18 (le-of-lt l)) (lt-trans r (lit< tt))
 
 abbrev word : Ty
 word = tyInt w64
