@@ -24,18 +24,6 @@ struct Turn {
     trail: Trail,
 }
 
-// A turn of its parts.
-fn outcome(found: bool, number: u8, columns: [u8; 16], trail: Trail) -> Turn
-    ensures { λ res. ⌜ res ≡ record { found = found; number = number; columns = columns; trail = trail } ⌝ }
-{
-    Turn {
-        found,
-        number,
-        columns,
-        trail,
-    }
-}
-
 // The entry after c, the i-th, or the first if i is 0, where there is room for one more.
 fn advance(n: usize, g: usize, r: usize, i: usize, room: bool, c: [u8; 16], trail: Trail) -> Turn
     requires { ⌜ Going n g r i c trail ⌝ }
@@ -43,18 +31,38 @@ fn advance(n: usize, g: usize, r: usize, i: usize, room: bool, c: [u8; 16], trai
 {
     let number = bounds_number(n, g, r);
     if number != 0 {
-        return outcome(false, number, c, trail);
+        return Turn {
+            found: false,
+            number,
+            columns: c,
+            trail,
+        };
     }
     let e = next_entry(n, n - g, r, 0 < i, c, trail);
-    let columns = e.columns;
-    let next = e.trail;
     if !e.found {
-        return outcome(false, 0, columns, next);
+        return Turn {
+            found: false,
+            number: 0,
+            columns: c,
+            trail,
+        };
     }
     if !room {
-        return outcome(false, 9, columns, next);
+        return Turn {
+            found: false,
+            number: 9,
+            columns: c,
+            trail,
+        };
     }
-    outcome(true, 0, columns, next)
+    let columns = e.columns;
+    let next = e.trail;
+    Turn {
+        found: true,
+        number: 0,
+        columns,
+        trail: next,
+    }
 }
 
 // The first n columns, at the places of the list from base on.

@@ -5,7 +5,7 @@ use mathlib.Core.List.{[], _∷_}
 use lib.ListN.{getD}
 use Rattle.words.specs.Standards.{form-cols}
 use Rattle.smallest_laws.specs.UnitForms.{rising-plain}
-use Rattle.measures.specs.Ready.{Ready}
+use Rattle.admission.specs.Admission.{Ready}
 use Rattle.plan_lists.specs.Accepted.{AcceptedPlans, AcceptedRecords, plans-accepted, records-accepted}
 use Rattle.witness_check.specs.Names.{Named}
 use Rattle.regular.specs.RefusalLaws.{lowest-none}

@@ -1,29 +1,22 @@
 -- `catalogue::advance` meets its contract: the four ways that a turn goes. Assumes nothing.
 use borrow.Author.Needs.{needs}
-use Rattle.catalogue.proofs.Turns.{turn-refused, turn-ended, turn-full, turn-goes}
-use Rattle.catalogue.specs.declared.Turn.{Turn}
-use Rattle.regular.specs.Sizes.{Sized}
-use Rattle.catalogue.specs.Turns.{Turned}
-use borrow.Author.Tests.{not-true, not-false}
-use native.Mathlib.Omega.{arith}
-use mathlib.Core.Path.{sym, subst}
 use Prim.Native.Nat.{_-_}
+use native.Mathlib.Omega.{arith}
+use borrow.Author.Tests.{not-true, not-false}
+use Rattle.regular.specs.Sizes.{Sized}
+use Rattle.catalogue.proofs.Turns.{turn-refused, turn-ended, turn-full, turn-goes}
 use Rattle.catalogue.proofs.advance.Statement.{statement}
 use Rattle.catalogue.proofs.advance.Tie as tie
 
 bounds-number-requires : tie.Need-bounds-number-requires
 bounds-number-requires c κs = search needs
 
-outcome-requires : tie.Need-outcome-requires
-outcome-requires c κs = search needs
-
 returns : tie.Need-returns
 returns c =
-    let s = c .before .before .before in
+    let s = c .before .before in
     let a = s .args in
-    let n = c .before .before .bounds-number .ensures in
-    subst (λ (t : Turn). Turned (a .n) (a .g) (a .r) (a .i) (a .room) (a .c) (t .found) (t .number) (t .columns) (t .trail)) (sym (c .outcome .ensures))
-    (turn-refused _ _ _ _ _ _ _ _ (c .before .if1 .taken) (n .2) (n .0) _)
+    let n = c .before .bounds-number .ensures in
+    turn-refused _ _ _ _ _ _ _ _ (c .if1 .taken) (n .2) (n .0) _
 
 sub-next-entry : tie.Need-sub-next-entry
 sub-next-entry c =
@@ -41,54 +34,38 @@ next-entry-requires c κs =
     let z : Sized (a .n) (a .g) (a .r) = n .1 (omega (arith, c .if1 .left)) in
     (z .size .some, z .size .most, z .size .few, z .high, s .pre .held, s .pre .start)
 
-outcome-requires-2 : tie.Need-outcome-requires-2
-outcome-requires-2 c κs = search needs
-
 returns-2 : tie.Need-returns-2
 returns-2 c =
+    let s = c .before .before .before .before .before in
+    let a = s .args in
+    let n = c .before .before .before .before .bounds-number .ensures in
+    let z : Sized (a .n) (a .g) (a .r) = n .1 (omega (arith, c .before .before .before .if1 .left)) in
+    turn-ended _ _ _ _ _ _ z _ _ (c .before .before .next-entry .ensures .stepped) (not-true _ (c .if2 .taken)) _ _
+
+returns-3 : tie.Need-returns-3
+returns-3 c =
+    let s = c .before .before .before .before .before .before in
+    let a = s .args in
+    let n = c .before .before .before .before .before .bounds-number .ensures in
+    let z : Sized (a .n) (a .g) (a .r) = n .1 (omega (arith, c .before .before .before .before .if1 .left)) in
+    turn-full _ _ _ _ _ _ z _ _ (c .before .before .before .next-entry .ensures .stepped) (not-false _ (c .before .if2 .left)) (not-true _ (c .if3 .taken)) _ _
+
+returns-4 : tie.Need-returns-4
+returns-4 c =
     let s = c .before .before .before .before .before .before .before .before in
     let a = s .args in
     let n = c .before .before .before .before .before .before .before .bounds-number .ensures in
     let z : Sized (a .n) (a .g) (a .r) = n .1 (omega (arith, c .before .before .before .before .before .before .if1 .left)) in
-    subst (λ (t : Turn). Turned (a .n) (a .g) (a .r) (a .i) (a .room) (a .c) (t .found) (t .number) (t .columns) (t .trail)) (sym (c .outcome2 .ensures))
-    (turn-ended _ _ _ _ _ _ z _ _ (c .before .before .before .before .before .next-entry .ensures .stepped) (not-true _ (c .before .if2 .taken)) _ _)
-
-outcome-requires-3 : tie.Need-outcome-requires-3
-outcome-requires-3 c κs = search needs
-
-returns-3 : tie.Need-returns-3
-returns-3 c =
-    let s = c .before .before .before .before .before .before .before .before .before in
-    let a = s .args in
-    let n = c .before .before .before .before .before .before .before .before .bounds-number .ensures in
-    let z : Sized (a .n) (a .g) (a .r) = n .1 (omega (arith, c .before .before .before .before .before .before .before .if1 .left)) in
-    subst (λ (t : Turn). Turned (a .n) (a .g) (a .r) (a .i) (a .room) (a .c) (t .found) (t .number) (t .columns) (t .trail)) (sym (c .outcome3 .ensures))
-    (turn-full _ _ _ _ _ _ z _ _ (c .before .before .before .before .before .before .next-entry .ensures .stepped) (not-false _ (c .before .before .if2 .left)) (not-true _ (c .before .if3 .taken)) _ _)
-
-outcome-requires-4 : tie.Need-outcome-requires-4
-outcome-requires-4 c κs = search needs
-
-returns-4 : tie.Need-returns-4
-returns-4 c =
-    let s = c .before .before .before .before .before .before .before .before .before in
-    let a = s .args in
-    let n = c .before .before .before .before .before .before .before .before .bounds-number .ensures in
-    let z : Sized (a .n) (a .g) (a .r) = n .1 (omega (arith, c .before .before .before .before .before .before .before .if1 .left)) in
-    subst (λ (t : Turn). Turned (a .n) (a .g) (a .r) (a .i) (a .room) (a .c) (t .found) (t .number) (t .columns) (t .trail)) (sym (c .outcome4 .ensures))
-    (turn-goes _ _ _ _ _ _ z _ _ (c .before .before .before .before .before .before .next-entry .ensures .stepped) (not-false _ (c .before .before .if2 .left)) (not-false _ (c .before .if3 .left)) _ _ (c .before .before .before .before .before .before .next-entry .ensures .followed (not-false _ (c .before .before .if2 .left))))
+    turn-goes _ _ _ _ _ _ z _ _ (c .before .before .before .before .before .next-entry .ensures .stepped) (not-false _ (c .before .before .before .if2 .left)) (not-false _ (c .before .before .if3 .left)) _ _ (c .before .before .before .before .before .next-entry .ensures .followed (not-false _ (c .before .before .before .if2 .left)))
 
 pub advance-spec : {M : Type 1} → statement M
 advance-spec =
     tie.close
     (tie.spec
     bounds-number-requires
-    outcome-requires
     returns
     sub-next-entry
     next-entry-requires
-    outcome-requires-2
     returns-2
-    outcome-requires-3
     returns-3
-    outcome-requires-4
     returns-4)
