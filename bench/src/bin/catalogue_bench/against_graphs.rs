@@ -34,16 +34,19 @@ fn sizes() -> impl Iterator<Item = Size> {
     (8..=16).map(|n| (n, n - 6, 3)).chain((9..=16).map(|n| (n, n - 7, 4)))
 }
 
-/// The fastest of five runs of the graph method, or its only one if it is long; and how many graphs it labels.
-fn measure_graphs((n, g, r): Size, entries: usize) -> (f64, usize) {
-    let (found, mut fastest) = time(|| grow(n, n - g, r));
-    assert_eq!(found.plans, entries, "the graph method finds another number of plans for {n} {g} {r}");
+/// The fastest of five runs of the library and of the graph method, in turn, or its only one if it is long; and how many graphs it labels.
+fn measure_both(size: Size, length: usize) -> (f64, f64, usize) {
+    let (n, g, r) = size;
+    let mut library = measure(size, length);
+    let (found, mut graphs) = time(|| grow(n, n - g, r));
+    assert_eq!(found.plans, length / n, "the graph method finds another number of plans for {n} {g} {r}");
     let mut passes = 1;
-    while passes < PASSES && fastest < LONG {
-        fastest = fastest.min(time(|| grow(n, n - g, r)).1);
+    while passes < PASSES && graphs < LONG {
+        library = library.min(measure(size, length));
+        graphs = graphs.min(time(|| grow(n, n - g, r)).1);
         passes += 1;
     }
-    (fastest, found.labelled)
+    (library, graphs, found.labelled)
 }
 
 pub fn print() {
@@ -53,8 +56,7 @@ pub fn print() {
     for size in sizes() {
         let (n, g, r) = size;
         let length = catalogue(size).len();
-        let library = measure(size, length);
-        let (graphs, labelled) = measure_graphs(size, length / n);
+        let (library, graphs, labelled) = measure_both(size, length);
         let ratio = library / graphs;
         let [gba, basic, pa, eca] = printed(size);
         println!(
