@@ -1,7 +1,7 @@
 //! The library against the graph method of document 002, and beside the times that documents 000 and 002 print.
 
 use crate::graphs::grow;
-use crate::library::{catalogue, measure, Size};
+use crate::library::{catalogue, measure_once, Size};
 use crate::timing::{time, PASSES};
 
 /// A first run that takes longer, in seconds, is not repeated.
@@ -37,12 +37,13 @@ fn sizes() -> impl Iterator<Item = Size> {
 /// The fastest of five runs of the library and of the graph method, in turn, or its only one if it is long; and how many graphs it labels.
 fn measure_both(size: Size, length: usize) -> (f64, f64, usize) {
     let (n, g, r) = size;
-    let mut library = measure(size, length);
+    let mut list = vec![0; length];
+    let mut library = measure_once(size, &mut list);
     let (found, mut graphs) = time(|| grow(n, n - g, r));
     assert_eq!(found.plans, length / n, "the graph method finds another number of plans for {n} {g} {r}");
     let mut passes = 1;
     while passes < PASSES && graphs < LONG {
-        library = library.min(measure(size, length));
+        library = library.min(measure_once(size, &mut list));
         graphs = graphs.min(time(|| grow(n, n - g, r)).1);
         passes += 1;
     }

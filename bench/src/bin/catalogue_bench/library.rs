@@ -1,6 +1,6 @@
 //! The catalogue by the exported function.
 
-use crate::timing::fastest;
+use crate::timing::{fastest, time};
 use planner::plan_catalogue;
 
 /// N, G and R.
@@ -27,6 +27,14 @@ pub fn catalogue(size: Size) -> Vec<u8> {
         }
         room *= 4;
     }
+}
+
+/// The time of one call.
+pub fn measure_once(size: Size, list: &mut [u8]) -> f64 {
+    let entries = list.len() / size.0;
+    let (found, seconds) = time(|| fill(size, list));
+    assert_eq!(found, Some(entries));
+    seconds
 }
 
 /// The time that the exported function takes for a catalogue into a list of just its length.
