@@ -13,7 +13,7 @@ use lib.ListN.{length, getD, replicate}
 use Rattle.gf2.specs.Digits.{odd}
 use Rattle.gf2.specs.Fill.{zeros}
 use Rattle.gf2.specs.Lists.{listTo}
-use Rattle.regular.specs.Sizes.{Size}
+use Rattle.regular.specs.Sizes.{Size, Sized}
 use Rattle.regular.specs.Runs.{runsOf, switched, Regular, Table}
 use Rattle.regular.specs.Words.{Word, NoShort, Generated, total, Independent, Last, Reduced}
 use Rattle.regular.specs.Columns.{runOf, planOf, Below, Spans, Listed, RunTable, Basic, StandardColumns, RunsOfPlan}
@@ -46,6 +46,9 @@ use Rattle.whiteboard.specs.Tests.{below, below-at, agree-at, only-zero}
 -- sizes: an ordinary one, the least, one of the largest
 pub size-4 : Size 4 1
 size-4 = record { some = omega arith; most = omega arith; less = omega arith; few = omega arith }
+
+pub sized-4 : Sized 4 1 3
+sized-4 = record { size = size-4; low = omega arith; high = omega arith }
 
 pub size-1 : Size 1 0
 size-1 = record { some = omega arith; most = omega arith; less = omega arith; few = omega arith }
