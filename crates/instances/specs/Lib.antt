@@ -1,2 +1,3 @@
 pub mod Inner
 pub mod Searching
+pub mod Walking
