@@ -1,3 +1,4 @@
 pub mod Inner
 pub mod Searching
 pub mod Walking
+pub mod Finding

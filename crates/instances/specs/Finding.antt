@@ -1,0 +1,144 @@
+-- What a search, the test of a list, the smallest form and the comparison require is met: on N 1, M 1, the column 1, its search from no image on.
+use mathlib.Core.Path.{_≡_, refl, sym, ap, subst, _∙_}
+use mathlib.Core.Logic.{inl, ⊎-elim, by-cases}
+use mathlib.Core.Bool.{true}
+use mathlib.Core.List.{List, [], _∷_}
+use Prim.Native.Nat.{ℕ, zero, suc, _+_, _^_, _≤_, _<_}
+use native.Mathlib.Omega.{arith}
+use native.Mathlib.Decide.{ℕ-discrete}
+use lib.ListN.{length, getD, replicate}
+use Rattle.gf2.specs.Fill.{zeros}
+use Rattle.gf2.specs.Vec.{vec}
+use Rattle.regular.specs.Words.{total}
+use Rattle.regular.specs.Columns.{planOf, Spans}
+use Rattle.regular.specs.Smallest.{Rising}
+use Rattle.isomorphism_laws.specs.Link.{Units}
+use Rattle.isomorphism_laws.specs.Masks.{plan-within}
+use Rattle.isomorphism_laws.specs.Renamings.{kept}
+use Rattle.isomorphism_laws.specs.SamePlan.{carries-refl}
+use Rattle.search.specs.Search.{On}
+use Rattle.search.specs.Steps.{Block, Blocks, Low, Own, Scanning, Going}
+use Rattle.beating_laws.specs.Above.{Above}
+use Rattle.beating_laws.specs.Branches.{Counts}
+use Rattle.beating_laws.specs.Carried.{AllCarried, carried-none}
+use Rattle.beating_laws.specs.Mirrors.{Clear, clear-all}
+use Rattle.canonical.specs.Reaching.{Reaches, reaches-blank}
+use Rattle.canonical.specs.Forming.{Sourced, Form}
+use Rattle.comparison.specs.Matching.{Imaged}
+use Rattle.profiles.specs.Order.{Most}
+use Rattle.profiles.specs.OrderSteps.{most-none}
+use Rattle.instances.specs.Searching.{column, marks, sums, one-on, tables-1, presence-1}
+use Rattle.instances.specs.Walking.{blank-128}
+
+-- what holds of factor 0 holds of every factor below 1, and of every factor of the set of it
+first : (p : ℕ → Type 0) → p 0 → (f : ℕ) → f < 1 → p f
+first p z f h = let e : 0 ≡ f = omega arith in subst p e z
+
+member : (p : ℕ → Type 0) → p 0 → (f : ℕ) → On f 1 → p f
+member p z f o = subst p (sym (one-on f o)) z
+
+-- the one block has the one factor
+pub block-1 : Block column 1 1 1
+block-1 = record {
+  to = member (λ f. (f < 1) × (1 ≤ getD column f 0) × (getD column f 0 < 2)) (omega arith, omega arith, omega arith);
+  from = λ f h a b. first (λ g. On g 1) refl f h;
+}
+
+pub blocks-1 : Blocks column 1 1 (1 ∷ replicate 7 0)
+blocks-1 = first (λ d. Block column 1 (2 ^ d) (getD (1 ∷ replicate 7 0) d 0)) block-1
+
+-- the table `marks` holds 0 and 1 at their places: the image of the column 1 is 1
+pub low-1 : Low column marks 1
+low-1 = member (λ f. (getD column f 0 < 128) × (getD marks (getD column f 0) 0 < 128)) (omega arith, omega arith)
+
+pub own-1 : Own sums marks 1
+own-1 i o = o
+
+-- the search from no image on, and its scan of the place 1
+pub going-1 : Going marks column (1 ∷ replicate 7 0) column marks sums 1 1 0 1 1 (replicate 128 0)
+going-1 = record {
+  most = omega arith;
+  few = omega arith;
+  within = omega arith;
+  size = refl;
+  long = refl;
+  tables = tables-1;
+  origin = refl;
+  small = first (λ k. getD (replicate 128 0) k 0 < 128) (omega arith);
+  low = first (λ f. getD column f 0 < 128) (omega arith);
+  all = λ k ne. presence-1 .to k (omega (arith, presence-1 .digit k));
+  blocks = blocks-1;
+  factors = member (λ i. i < 1) (omega arith);
+}
+
+pub scanning-1 : Scanning true marks sums (replicate 128 0) 1 1 1 1
+scanning-1 = record {
+  sub = λ i o. (o, first (λ j. (getD marks (1 + j) 0 ≡ 0 → On i (getD sums (getD (replicate 128 0) j 0) 0) → ⊥) × ((getD marks (1 + j) 0 ≡ 0 → ⊥) → On i (getD sums (getD (replicate 128 0) j 0) 0))) ((λ e _. omega arith), (λ _. o)));
+  cut = λ i o. inl o;
+}
+
+-- the test of the list against itself, at the unit 1
+pub rising-1 : Rising 1 1 column
+unfolding total
+rising-1 = record {
+  above = first (λ f. 0 < getD column f 0) (omega arith);
+  below = first (λ f. getD column f 0 < 2) (omega arith);
+  rank = λ v h. by-cases (ℕ-discrete v 0) (λ e. (0, (omega arith, sym e))) (λ ne. let e : 1 ≡ v = omega arith in (1, (omega arith, e)));
+  rising = λ f g h l. absurd (omega arith);
+}
+
+pub units-1 : Units 1 1 column
+units-1 = first (λ i. (f : ℕ) × ((f < 1) × (getD column f 0 ≡ 2 ^ i))) (0, (omega arith, refl))
+
+pub counts-1 : Counts 0 marks
+counts-1 = record { long = refl; at = first (λ k. getD marks k 0 ≡ k) refl }
+
+pub above-1 : Above 1 column 0 1
+above-1 = record { to = member (λ i. (i < 1) × (1 ≤ getD column i 0)) (omega arith, omega arith); from = λ i h l. first (λ j. On j 1) refl i h }
+
+pub carried-1 : AllCarried 1 1 column 0 (replicate 128 0)
+carried-1 = carried-none 1 1 column 0 (replicate 128 0) blank-128
+
+pub clear-1 : Clear 1 1 column 1
+clear-1 = clear-all 1 1 column
+
+-- the smallest form: nothing placed, then the column placed, and a form to start from
+pub reaches-0 : Reaches 1 1 column 1 (replicate 128 0) []
+reaches-0 = reaches-blank 1 1 column
+
+pub reaches-1 : Reaches 1 1 column 2 marks (1 ∷ [])
+unfolding vec
+reaches-1 = record {
+  part = record {
+    room = omega arith;
+    columns = λ z i. ⊎-elim (λ e. (0, (omega arith, sym e))) (λ n. absurd n) i;
+    free = λ k l e. by-cases (ℕ-discrete k 0) (λ z. z) (λ ne. let o : k ≡ 1 = omega arith in absurd (omega (arith, sym (ap (vec (1 ∷ [])) o) ∙ e)));
+  };
+  size = refl;
+  filled = λ k l. by-cases (ℕ-discrete k 0) (λ z. rw z refl) (λ ne. let o : k ≡ 1 = omega arith in rw o refl);
+}
+
+pub sourced-1 : Sourced 1 column column marks
+sourced-1 = first (λ g. (j : ℕ) × ((j < 1) × (getD marks (getD column j 0) 0 ≡ getD column g 0))) (0, (omega arith, refl))
+
+pub form-1 : (names : List ℕ) × Form 1 1 column column names
+form-1 = (kept 1, record {
+  rising = rising-1;
+  carries = carries-refl 1 (planOf 1 1 column) (plan-within 1 1 column);
+  unused = unused;
+})
+  where
+    unused : (f : ℕ) → 1 ≤ f → getD column f 0 ≡ 0
+    unused zero h = absurd (omega arith)
+    unused (suc f) h = zeros 15 f
+
+-- the comparison: the image names a factor; keys of no factor
+pub imaged-1 : Imaged 1 column marks marks
+imaged-1 = record {
+  column = first (λ f. getD column f 0 < 128) (omega arith);
+  image = first (λ f. getD marks (getD column f 0) 0 < 128) (omega arith);
+  some = first (λ f. 0 < getD marks (getD marks (getD column f 0) 0) 0) (omega arith);
+}
+
+pub most-16 : Most 16 256 (replicate 16 0)
+most-16 = most-none 16 256
