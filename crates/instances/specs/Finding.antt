@@ -3,15 +3,12 @@ use mathlib.Core.Path.{_≡_, refl, sym, ap, subst, _∙_}
 use mathlib.Core.Logic.{inl, ⊎-elim, by-cases}
 use mathlib.Core.Bool.{true}
 use mathlib.Core.List.{List, [], _∷_}
-use Prim.Native.Nat.{ℕ, zero, suc, _+_, _^_, _≤_, _<_}
+use Prim.Native.Nat.{ℕ, _+_, _^_, _≤_, _<_}
 use native.Mathlib.Omega.{arith}
 use native.Mathlib.Decide.{ℕ-discrete}
-use lib.ListN.{length, getD, replicate}
-use Rattle.gf2.specs.Fill.{zeros}
+use lib.ListN.{getD, replicate}
 use Rattle.gf2.specs.Vec.{vec}
-use Rattle.regular.specs.Words.{total}
-use Rattle.regular.specs.Columns.{planOf, Spans}
-use Rattle.regular.specs.Smallest.{Rising}
+use Rattle.regular.specs.Columns.{planOf}
 use Rattle.isomorphism_laws.specs.Link.{Units}
 use Rattle.isomorphism_laws.specs.Masks.{plan-within}
 use Rattle.isomorphism_laws.specs.Renamings.{kept}
@@ -28,12 +25,9 @@ use Rattle.comparison.specs.Matching.{Imaged}
 use Rattle.profiles.specs.Order.{Most}
 use Rattle.profiles.specs.OrderSteps.{most-none}
 use Rattle.instances.specs.Searching.{column, marks, sums, one-on, tables-1, presence-1}
-use Rattle.instances.specs.Walking.{blank-128}
+use Rattle.instances.specs.Walking.{first, blank-128, rising-1, held-1}
 
--- what holds of factor 0 holds of every factor below 1, and of every factor of the set of it
-first : (p : ℕ → Type 0) → p 0 → (f : ℕ) → f < 1 → p f
-first p z f h = let e : 0 ≡ f = omega arith in subst p e z
-
+-- what holds of factor 0 holds of every factor of the set of it
 member : (p : ℕ → Type 0) → p 0 → (f : ℕ) → On f 1 → p f
 member p z f o = subst p (sym (one-on f o)) z
 
@@ -78,15 +72,6 @@ scanning-1 = record {
 }
 
 -- the test of the list against itself, at the unit 1
-pub rising-1 : Rising 1 1 column
-unfolding total
-rising-1 = record {
-  above = first (λ f. 0 < getD column f 0) (omega arith);
-  below = first (λ f. getD column f 0 < 2) (omega arith);
-  rank = λ v h. by-cases (ℕ-discrete v 0) (λ e. (0, (omega arith, sym e))) (λ ne. let e : 1 ≡ v = omega arith in (1, (omega arith, e)));
-  rising = λ f g h l. absurd (omega arith);
-}
-
 pub units-1 : Units 1 1 column
 units-1 = first (λ i. (f : ℕ) × ((f < 1) × (getD column f 0 ≡ 2 ^ i))) (0, (omega arith, refl))
 
@@ -125,12 +110,8 @@ pub form-1 : (names : List ℕ) × Form 1 1 column column names
 form-1 = (kept 1, record {
   rising = rising-1;
   carries = carries-refl 1 (planOf 1 1 column) (plan-within 1 1 column);
-  unused = unused;
+  unused = held-1 .rest;
 })
-  where
-    unused : (f : ℕ) → 1 ≤ f → getD column f 0 ≡ 0
-    unused zero h = absurd (omega arith)
-    unused (suc f) h = zeros 15 f
 
 -- the comparison: the image names a factor; keys of no factor
 pub imaged-1 : Imaged 1 column marks marks
