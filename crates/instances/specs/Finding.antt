@@ -6,21 +6,24 @@ use mathlib.Core.List.{List, [], _∷_}
 use Prim.Native.Nat.{ℕ, _+_, _^_, _≤_, _<_}
 use native.Mathlib.Omega.{arith}
 use native.Mathlib.Decide.{ℕ-discrete}
-use lib.ListN.{getD, replicate}
+use lib.ListN.{length, getD, replicate}
 use Rattle.gf2.specs.Vec.{vec}
 use Rattle.regular.specs.Columns.{planOf}
+use Rattle.regular.specs.Smallest.{Rising}
 use Rattle.isomorphism_laws.specs.Link.{Units}
 use Rattle.isomorphism_laws.specs.Masks.{plan-within}
 use Rattle.isomorphism_laws.specs.Renamings.{kept}
 use Rattle.isomorphism_laws.specs.SamePlan.{carries-refl}
-use Rattle.search.specs.Search.{On}
+use Rattle.smallest_laws.specs.Pulled.{pulled}
+use Rattle.smallest_laws.specs.UnitForms.{rising-plain}
+use Rattle.search.specs.Search.{On, Tables, Presence}
 use Rattle.search.specs.Steps.{Block, Blocks, Low, Own, Scanning, Going}
 use Rattle.beating_laws.specs.Above.{Above}
 use Rattle.beating_laws.specs.Branches.{Counts}
 use Rattle.beating_laws.specs.Carried.{AllCarried, carried-none}
 use Rattle.beating_laws.specs.Mirrors.{Clear, clear-all}
 use Rattle.canonical.specs.Reaching.{Reaches, reaches-blank}
-use Rattle.canonical.specs.Forming.{Sourced, Form}
+use Rattle.canonical.specs.Forming.{Sourced, Form, tested-length}
 use Rattle.comparison.specs.Matching.{Imaged}
 use Rattle.profiles.specs.Order.{Most}
 use Rattle.profiles.specs.OrderSteps.{most-none}
@@ -87,6 +90,11 @@ carried-1 = carried-none 1 1 column 0 (replicate 128 0) blank-128
 pub clear-1 : Clear 1 1 column 1
 clear-1 = clear-all 1 1 column
 
+-- .. all that a trial at the unit requires at once
+pub trial-1 : (Rising 1 1 column × Units 1 1 column) × (Presence column 1 marks × Tables column marks sums 1 × Counts 0 marks × Blocks column 1 1 (1 ∷ replicate 7 0) × Above 1 column 0 1)
+    × (AllCarried 1 1 column 0 (replicate 128 0) × Clear 1 1 column 1)
+trial-1 = ((rising-1, units-1), (presence-1, tables-1, counts-1, blocks-1, above-1), (carried-1, clear-1))
+
 -- the smallest form: nothing placed, then the column placed, and a form to start from
 pub reaches-0 : Reaches 1 1 column 1 (replicate 128 0) []
 reaches-0 = reaches-blank 1 1 column
@@ -102,6 +110,9 @@ reaches-1 = record {
   size = refl;
   filled = λ k l. by-cases (ℕ-discrete k 0) (λ z. rw z refl) (λ ne. let o : k ≡ 1 = omega arith in rw o refl);
 }
+
+pub pulled-1 : length (pulled 1 1 (λ k. getD marks k 0) column) ≡ 1
+pulled-1 = tested-length 1 1 column marks (1 ∷ []) (rising-plain 1 1 column rising-1) (rising-1 .below) reaches-1
 
 pub sourced-1 : Sourced 1 column column marks
 sourced-1 = first (λ g. (j : ℕ) × ((j < 1) × (getD marks (getD column j 0) 0 ≡ getD column g 0))) (0, (omega arith, refl))

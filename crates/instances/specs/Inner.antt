@@ -1,5 +1,5 @@
--- What inner functions require is met: by the plans of ABC and ABCD, N 4, G 1. Requirements that are bounds of numbers alone are left out, and so are
--- the states of loops: that these hold at the start, for any input, is a law of each.
+-- What inner functions require of plans and lists of plans is met: by ABC and ABCD, N 4, G 1. Requirements that are bounds of numbers and lengths alone
+-- are left out.
 use mathlib.Core.Path.{refl}
 use mathlib.Core.List.{[], _∷_}
 use lib.ListN.{getD}
@@ -8,11 +8,13 @@ use Rattle.smallest_laws.specs.UnitForms.{rising-plain}
 use Rattle.admission.specs.Admission.{Ready}
 use Rattle.plan_lists.specs.Accepted.{AcceptedPlans, AcceptedRecords, plans-accepted, records-accepted}
 use Rattle.witness_check.specs.Names.{Named}
+use Rattle.regular.specs.Accepted.{sizes-accepted}
+use Rattle.regular.specs.Refusals.{Lowest, sizeFaults}
 use Rattle.regular.specs.RefusalLaws.{lowest-none}
-use Rattle.regular.specs.PlanLists.{wantedPlansFaults, wantedRecordsFaults}
+use Rattle.regular.specs.PlanLists.{plansFaults, wantedPlansFaults, wantedRecordsFaults}
 use Rattle.whiteboard.specs.ListInstances.{plans-wanted, records-wanted, twoRecords}
-use Rattle.whiteboard.specs.PlanInstances.{recordABC, witness-disguised, size-4, holds-abc, standard-form-abc}
-use Rattle.whiteboard.specs.ResultInstances.{plans}
+use Rattle.whiteboard.specs.PlanInstances.{recordABC, witness-disguised, size-4, sized-4, holds-abc, standard-form-abc}
+use Rattle.whiteboard.specs.ResultInstances.{plans, plans-none}
 use Rattle.whiteboard.specs.Samples.{abc}
 use Rattle.whiteboard.specs.Tests.{below, agree-at}
 
@@ -31,6 +33,13 @@ accepted-plans = plans-accepted 4 1 3 plans (lowest-none (wantedPlansFaults 4 1 
 
 pub accepted-records : AcceptedRecords 4 1 3 twoRecords
 accepted-records = records-accepted 4 1 3 twoRecords (lowest-none (wantedRecordsFaults 4 1 3 twoRecords) records-wanted)
+
+-- sizes, and plans one after another, that nothing is wrong with: the tests of several plans, and their smallest forms
+pub accepted-size : Lowest (sizeFaults 4 1 3) 0
+accepted-size = sizes-accepted 4 1 3 sized-4
+
+pub accepted-list : Lowest (plansFaults 4 1 plans) 0
+accepted-list = lowest-none (plansFaults 4 1 plans) plans-none
 
 -- names of a claimed witness
 pub named-bcda : Named 4 (1 ∷ 2 ∷ 3 ∷ 0 ∷ [])
