@@ -16,8 +16,8 @@ use Rattle.isomorphism_laws.specs.Renamings.{kept}
 use Rattle.isomorphism_laws.specs.SamePlan.{carries-refl}
 use Rattle.smallest_laws.specs.Pulled.{pulled}
 use Rattle.smallest_laws.specs.UnitForms.{rising-plain}
-use Rattle.search.specs.Search.{On, Tables, Presence}
-use Rattle.search.specs.Steps.{Block, Blocks, Low, Own, Scanning, Going}
+use Rattle.search.specs.Search.{On, Alike, Tables, Presence}
+use Rattle.search.specs.Steps.{Block, Blocks, Low, At, Own, Scanning, Going}
 use Rattle.beating_laws.specs.Above.{Above}
 use Rattle.beating_laws.specs.Branches.{Counts}
 use Rattle.beating_laws.specs.Carried.{AllCarried, carried-none}
@@ -70,7 +70,7 @@ going-1 = record {
 
 pub scanning-1 : Scanning true marks sums (replicate 128 0) 1 1 1 1
 scanning-1 = record {
-  sub = λ i o. (o, first (λ j. (getD marks (1 + j) 0 ≡ 0 → On i (getD sums (getD (replicate 128 0) j 0) 0) → ⊥) × ((getD marks (1 + j) 0 ≡ 0 → ⊥) → On i (getD sums (getD (replicate 128 0) j 0) 0))) ((λ e _. omega arith), (λ _. o)));
+  sub = λ i o. (o, first (λ j. Alike marks (1 + j) (At sums (replicate 128 0) i j)) ((λ e _. omega arith), (λ _. o)));
   cut = λ i o. inl o;
 }
 
@@ -118,13 +118,16 @@ pub sourced-1 : Sourced 1 column column marks
 sourced-1 = first (λ g. (j : ℕ) × ((j < 1) × (getD marks (getD column j 0) 0 ≡ getD column g 0))) (0, (omega arith, refl))
 
 pub form-1 : (names : List ℕ) × Form 1 1 column column names
-form-1 = (kept 1, record {
-  rising = rising-1;
-  carries = carries-refl 1 (planOf 1 1 column) (plan-within 1 1 column);
-  unused = held-1 .rest;
-})
+form-1 = (
+  kept 1,
+  record {
+    rising = rising-1;
+    carries = carries-refl 1 (planOf 1 1 column) (plan-within 1 1 column);
+    unused = held-1 .rest;
+  },
+)
 
--- the comparison: the image names a factor; keys of no factor
+-- the comparison: the image names a factor; keys of no factor; each column has a place
 pub imaged-1 : Imaged 1 column marks marks
 imaged-1 = record {
   column = first (λ f. getD column f 0 < 128) (omega arith);
@@ -134,3 +137,6 @@ imaged-1 = record {
 
 pub most-16 : Most 16 256 (replicate 16 0)
 most-16 = most-none 16 256
+
+pub placed-1 : (f : ℕ) → f < 1 → (getD column f 0 < 128) × (getD marks (getD column f 0) 0 ≡ 0 → ⊥)
+placed-1 = first (λ f. (getD column f 0 < 128) × (getD marks (getD column f 0) 0 ≡ 0 → ⊥)) (omega arith, λ e. omega arith)
