@@ -1,17 +1,21 @@
--- What a search, the test of a list, the smallest form and the comparison require is met: on N 1, M 1, the column 1, its search from no image on.
+-- What a search, the test of a list, the smallest form and the comparison require is met: on N 1, the column 1; marks, on N 2, the columns 1 and 2.
 use mathlib.Core.Path.{_≡_, refl, sym, ap, subst, _∙_}
 use mathlib.Core.Logic.{inl, ⊎-elim, by-cases}
 use mathlib.Core.Bool.{true}
 use mathlib.Core.List.{List, [], _∷_}
-use Prim.Native.Nat.{ℕ, _+_, _^_, _≤_, _<_}
+use Prim.Native.Nat.{ℕ, zero, suc, _+_, _^_, _≤_, _<_}
 use native.Mathlib.Omega.{arith}
 use native.Mathlib.Decide.{ℕ-discrete}
 use lib.ListN.{length, getD, replicate}
+use Rattle.gf2.specs.Fill.{zeros}
+use Rattle.gf2.specs.Members.{In}
 use Rattle.gf2.specs.Vec.{vec}
 use Rattle.regular.specs.Columns.{planOf}
 use Rattle.regular.specs.Smallest.{Rising}
-use Rattle.isomorphism_laws.specs.Link.{Units}
+use Rattle.isomorphism_laws.specs.Link.{Units, Column}
 use Rattle.isomorphism_laws.specs.Masks.{plan-within}
+use Rattle.isomorphism_laws.specs.Match.{Match}
+use Rattle.isomorphism_laws.specs.Match as matched
 use Rattle.isomorphism_laws.specs.Renamings.{kept}
 use Rattle.isomorphism_laws.specs.SamePlan.{carries-refl}
 use Rattle.smallest_laws.specs.Pulled.{pulled}
@@ -33,6 +37,9 @@ use Rattle.instances.specs.Walking.{first, blank-128, rising-1, held-1}
 -- what holds of factor 0 holds of every factor of the set of it
 member : (p : ℕ → Type 0) → p 0 → (f : ℕ) → On f 1 → p f
 member p z f o = subst p (sym (one-on f o)) z
+
+pub on-1 : On 0 1
+on-1 = refl
 
 -- the one block has the one factor
 pub block-1 : Block column 1 1 1
@@ -86,6 +93,51 @@ above-1 = record { to = member (λ i. (i < 1) × (1 ≤ getD column i 0)) (omega
 
 pub carried-1 : AllCarried 1 1 column 0 (replicate 128 0)
 carried-1 = carried-none 1 1 column 0 (replicate 128 0) blank-128
+
+-- of the columns 1 and 2, exchanging them carries 1 up to 2, which is marked
+abbrev pub pair : List ℕ
+pair = 1 ∷ 2 ∷ []
+
+not-three : Column 2 pair 3 → ⊥
+not-three c = by-cases (ℕ-discrete (c .0) 0)
+    (λ z. omega (arith, sym (ap (λ (f : ℕ). getD pair f 0) z) ∙ c .1 .1))
+    (λ ne. let o : c .0 ≡ 1 = omega (arith, c .1 .0) in omega (arith, sym (ap (λ (f : ℕ). getD pair f 0) o) ∙ c .1 .1))
+
+exchanged : Match 2 2 pair pair pair
+unfolding vec
+exchanged = record { count = refl; columns = columns; free = free; alike = alike }
+  where
+    columns : (z : ℕ) → In z pair → Column 2 pair z
+    columns z i = ⊎-elim (λ e. (0, (omega arith, sym e))) (⊎-elim (λ e. (1, (omega arith, sym e))) (λ n. absurd n)) i
+
+    free : (k : ℕ) → k < 4 → vec pair k ≡ 0 → k ≡ 0
+    free zero l e = refl
+    free (suc zero) l e = absurd (omega arith)
+    free (suc (suc zero)) l e = absurd (omega arith)
+    free (suc (suc (suc zero))) l e = absurd (omega arith)
+    free (suc (suc (suc (suc k)))) l e = absurd (omega arith)
+
+    alike : (k : ℕ) → 0 < k → k < 4 → matched.Alike 2 pair pair pair k
+    alike zero p l = absurd (omega arith)
+    alike (suc zero) p l = record { into = λ _. (1, (omega arith, refl)); onto = λ _. (0, (omega arith, refl)) }
+    alike (suc (suc zero)) p l = record { into = λ _. (0, (omega arith, refl)); onto = λ _. (1, (omega arith, refl)) }
+    alike (suc (suc (suc zero))) p l = record { into = λ c. absurd (not-three c); onto = λ c. absurd (not-three c) }
+    alike (suc (suc (suc (suc k)))) p l = absurd (omega arith)
+
+pub carried-2 : AllCarried 2 2 pair 0 (0 ∷ 0 ∷ 1 ∷ replicate 125 0)
+unfolding vec
+carried-2 zero l ne = absurd (ne refl)
+carried-2 (suc zero) l ne = absurd (ne refl)
+carried-2 (suc (suc zero)) l ne = record {
+  by = pair;
+  match = exchanged;
+  keeps = first (λ k. vec pair k ≡ k) refl;
+  from = 1;
+  smaller = omega arith;
+  below = omega arith;
+  to = refl;
+}
+carried-2 (suc (suc (suc y))) l ne = absurd (ne (zeros 125 y))
 
 pub clear-1 : Clear 1 1 column 1
 clear-1 = clear-all 1 1 column
