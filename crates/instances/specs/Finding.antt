@@ -41,36 +41,33 @@ member p z f o = subst p (sym (one-on f o)) z
 pub on-1 : On 0 1
 on-1 = refl
 
--- the one block has the one factor
-pub block-1 : Block column 1 1 1
+-- the one block has the one column, 1 and 0
+pub block-1 : Block marks 1 1 1
 block-1 = record {
-  to = member (λ f. (f < 1) × (1 ≤ getD column f 0) × (getD column f 0 < 2)) (omega arith, omega arith, omega arith);
-  from = λ f h a b. first (λ g. On g 1) refl f h;
+  to = member (λ k. (k < 1) × (getD marks (1 + k) 0 ≡ 0 → ⊥)) (omega arith, λ e. omega arith);
+  from = λ k h ne. first (λ j. On j 1) refl k h;
 }
 
-pub blocks-1 : Blocks column 1 1 (1 ∷ replicate 7 0)
-blocks-1 = first (λ d. Block column 1 (2 ^ d) (getD (1 ∷ replicate 7 0) d 0)) block-1
+pub blocks-1 : Blocks marks 1 (1 ∷ replicate 7 0)
+blocks-1 = first (λ d. Block marks (2 ^ d) (2 ^ d) (getD (1 ∷ replicate 7 0) d 0)) block-1
 
 -- the table `marks` holds 0 and 1 at their places: the image of the column 1 is 1
-pub low-1 : Low column marks 1
-low-1 = member (λ f. (getD column f 0 < 128) × (getD marks (getD column f 0) 0 < 128)) (omega arith, omega arith)
+pub low-1 : Low 1 marks 1
+low-1 = member (λ k. (k < 64) × (getD marks (1 + k) 0 < 128)) (omega arith, omega arith)
 
 pub own-1 : Own sums marks 1
 own-1 i o = o
 
 -- the search from no image on, and its scan of the place 1
-pub going-1 : Going marks column (1 ∷ replicate 7 0) column marks sums 1 1 0 1 1 (replicate 128 0)
+pub going-1 : Going marks (1 ∷ replicate 7 0) column marks sums 1 1 0 1 (replicate 128 0)
 going-1 = record {
   most = omega arith;
   few = omega arith;
   within = omega arith;
-  size = refl;
   long = refl;
   tables = tables-1;
   origin = refl;
   small = first (λ k. getD (replicate 128 0) k 0 < 128) (omega arith);
-  low = first (λ f. getD column f 0 < 128) (omega arith);
-  all = λ k ne. presence-1 .to k (omega (arith, presence-1 .digit k));
   blocks = blocks-1;
   factors = member (λ i. i < 1) (omega arith);
 }
@@ -143,7 +140,7 @@ pub clear-1 : Clear 1 1 column 1
 clear-1 = clear-all 1 1 column
 
 -- .. all that a trial at the unit requires at once
-pub trial-1 : (Rising 1 1 column × Units 1 1 column) × (Presence column 1 marks × Tables column marks sums 1 × Counts 0 marks × Blocks column 1 1 (1 ∷ replicate 7 0) × Above 1 column 0 1)
+pub trial-1 : (Rising 1 1 column × Units 1 1 column) × (Presence column 1 marks × Tables column marks sums 1 × Counts 0 marks × Blocks marks 1 (1 ∷ replicate 7 0) × Above 1 column 0 1)
     × (AllCarried 1 1 column 0 (replicate 128 0) × Clear 1 1 column 1)
 trial-1 = ((rising-1, units-1), (presence-1, tables-1, counts-1, blocks-1, above-1), (carried-1, clear-1))
 
