@@ -1,7 +1,7 @@
 // From columns to their standard columns, their run table, and whether one is 0 or stands twice.
 ghost use mathlib.Core.Path.{_≡_};
 ghost use mathlib.Core.Bool.{true, false};
-ghost use Prim.Native.Nat.{ℕ, _+_, _^_, _<_, _≤_};
+ghost use Prim.Native.Nat.{ℕ, _^_, _<_, _≤_};
 ghost use lib.ListN.{length, getD};
 ghost use Rattle.regular.specs.Columns.{planOf, Below, Spans, RunTable, runOf};
 ghost use Rattle.standard.specs.Form.{Found, Plain, Repeat};

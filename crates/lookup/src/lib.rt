@@ -1,6 +1,5 @@
 // The first place of a plan in a lent list of plans, as records or as columns one after another. Public for the calls on the smallest form.
 ghost use mathlib.Core.Path.{_≡_};
-ghost use mathlib.Core.Bool.{true, false};
 ghost use Prim.Native.Nat.{ℕ, _+_, _<_, _≤_};
 ghost use lib.ListN.{length, getD};
 ghost use Rattle.regular.specs.SmallestAnswers.{DesignPlace, ColumnsPlace};

@@ -1,6 +1,6 @@
 // Pattern, resolution and distance counts of a plan in any of its forms.
 ghost use mathlib.Core.Path.{_≡_};
-ghost use Prim.Native.Nat.{_+_, _-_, _<_};
+ghost use Prim.Native.Nat.{_+_, _-_};
 ghost use lib.ListN.{getD};
 ghost use Rattle.regular.specs.Runs.{runsOf};
 ghost use Rattle.regular.specs.Words.{Generated};

@@ -2,7 +2,7 @@
 // wanted. Public for the smallest form's place in a list and for the book; a call that takes no resolution calls with r = 3 (`three-records`,
 // `three-plans`).
 ghost use mathlib.Core.Path.{_≡_};
-ghost use Prim.Native.Nat.{ℕ, _+_, _*_, _-_, _≤_, _<_};
+ghost use Prim.Native.Nat.{ℕ, _*_, _-_, _≤_};
 ghost use lib.ListN.{length};
 ghost use Rattle.regular.specs.Columns.{planOf};
 ghost use Rattle.regular.specs.Refusals.{Lowest, sizeFaults};

@@ -12,7 +12,7 @@ use lib.Dec.{eqb}
 use lib.Bits.{bitXor, xor-lt, xor-comm, xor-shifted}
 use lib.Pow.{pow-pos, pow-lt, pow-mono, mod-pow-add}
 use lib.ListN.{length, getD}
-use borrow.Author.Tests.{eqb-true, eq-eqb}
+use borrow.Author.Tests.{eqb-true}
 use Rattle.gf2.specs.Digits.{bit, odd, pick}
 use Rattle.gf2.specs.DigitLaws.{bit-ext, bit-none}
 use Rattle.gf2.specs.Parity.{odd-comm, odd-bit}

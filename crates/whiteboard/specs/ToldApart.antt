@@ -1,7 +1,7 @@
 -- The plain numbers that the C planner gets tell a comparison's answers apart: no number stands for two of them.
 use mathlib.Core.Path.{_≡_, ap}
 use mathlib.Core.List.{List}
-use Prim.Native.Nat.{ℕ, _+_, _^_, _≤_, _<_}
+use Prim.Native.Nat.{ℕ, _^_, _≤_, _<_}
 use native.Mathlib.Omega.{arith}
 use lib.Pow.{pow-mono}
 use Rattle.regular.specs.Comparisons.{Differ, Compares, comparedNumber}

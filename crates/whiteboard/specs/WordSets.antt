@@ -2,7 +2,7 @@
 -- the words of the one into the words of the other. Document 01's definition, by runs, is shown to say that.
 use mathlib.Core.Path.{_≡_, refl, sym, ap, subst, _∙_}
 use mathlib.Core.List.{List}
-use Prim.Native.Nat.{ℕ, _-_, _^_, _<_}
+use Prim.Native.Nat.{ℕ, _^_, _<_}
 use lib.Bits.{bitXor, xor-zero-r}
 use lib.ListN.{getD}
 use lib.Pow.{pow-pos}

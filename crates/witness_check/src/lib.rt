@@ -1,6 +1,5 @@
 // The check of a claimed witness between two run tables.
-ghost use mathlib.Core.Bool.{true, false};
-ghost use Prim.Native.Nat.{_^_, _≤_, _<_};
+ghost use Prim.Native.Nat.{_≤_};
 ghost use Rattle.gf2.specs.Answers.{Tells};
 ghost use Rattle.regular.specs.Refusals.{runsFaults, either};
 ghost use Rattle.regular.specs.Comparisons.{Witness, Checks};

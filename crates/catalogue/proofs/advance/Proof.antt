@@ -1,6 +1,5 @@
 -- `catalogue::advance` meets its contract: the four ways that a turn goes. Assumes nothing.
 use borrow.Author.Needs.{needs}
-use Prim.Native.Nat.{_-_}
 use native.Mathlib.Omega.{arith}
 use borrow.Author.Tests.{not-true, not-false}
 use Rattle.regular.specs.Sizes.{Sized}

@@ -2,10 +2,9 @@
 -- calls `step`, which is covered, and stores what it finds at i. The loop's state is i, the list as it stands and the last record, with what the list
 -- holds so far (`Listing`); its measure is the number of places left. Assumes nothing.
 use mathlib.Core.Path.{_≡_, refl, sym, _∙_, ap, subst}
-use mathlib.Core.Bool.{not}
 use mathlib.Core.WellFounded.{WellFounded, InvImage·wf}
 use Prim.Native.Nat.{ℕ, _+_, _-_, _*_, _≤_, _<_, _^_, zero-le}
-use native.Mathlib.Nat.{lt-trans, lt-of-le-of-lt, mul-le-mul-right, le-of-lt}
+use native.Mathlib.Nat.{lt-of-le-of-lt}
 use native.Mathlib.Numerals.{add-one-le, add-one-dec}
 use mathlib.Core.List.{[], _∷_, List}
 use lib.Dec.{T, lit<}

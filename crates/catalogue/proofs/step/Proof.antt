@@ -1,7 +1,6 @@
 -- `catalogue::step` meets its contract: the turn, with the record that it finds or the answer. Assumes nothing.
 use borrow.Author.Needs.{needs}
 use mathlib.Core.Path.{refl}
-use Prim.Native.Nat.{_-_}
 use native.Mathlib.Omega.{arith}
 use borrow.Author.Tests.{not-true, not-false}
 use Rattle.catalogue.proofs.Records.{stepped-stops, stepped-goes}
