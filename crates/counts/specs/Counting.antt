@@ -1,11 +1,18 @@
--- More laws of Count (gf2): nothing, one more, either of two, the numbers below k; a count of 0 has no members and a count above 0 has one.
-use mathlib.Core.Path.{_≡_, refl, ap, subst, _∙_}
-use mathlib.Core.Logic.{_⊎_, inl, inr, ⊎-elim}
+-- More laws of Count (gf2): nothing, one more, either of two, the numbers below k, the set digits of a number; a count of 0 has no members and a
+-- count above 0 has one.
+use mathlib.Core.Path.{_≡_, refl, sym, ap, subst, _∙_}
+use mathlib.Core.Logic.{_⊎_, inl, inr, ⊎-elim, by-cases}
 use mathlib.Core.List.{List, [], _∷_}
-use Prim.Native.Nat.{ℕ, zero, suc, _+_, _<_}
+use Prim.Native.Nat.{ℕ, zero, suc, _+_, _/_, _%_, _<_}
 use native.Mathlib.Omega.{arith}
+use native.Mathlib.Decide.{ℕ-discrete}
+use lib.Arith.{bin-ind}
+use lib.Count.{ones, ones-step}
 use lib.ListN.{length}
 use Rattle.gf2.specs.Counts.{Count, count-same, count-image}
+use Rattle.gf2.specs.DigitLaws.{bit-none, bit-suc}
+use Rattle.gf2.specs.Digits.{bit}
+use Rattle.gf2.specs.Letters.{ones-zero}
 use Rattle.gf2.specs.Lists.{upto, upto-lt, upto-in, upto-length, upto-different}
 use Rattle.gf2.specs.Members.{In, Different}
 
@@ -75,3 +82,38 @@ count-some P k h c = first (c .members) (omega (arith, c .number)) (c .each)
     first : (xs : List ℕ) → 0 < length xs → ((x : ℕ) → In x xs → P x) → (x : ℕ) × P x
     first [] h e = absurd (omega arith)
     first (y ∷ ys) h e = (y, e y (inl refl))
+
+-- the set digits of a number: those of its half, moved up, and its lowest
+module _ (w : ℕ) (half : Count (λ i. bit i (w / 2) ≡ 1) (ones (w / 2))) where
+  upper : Count (λ i. (0 < i) × (bit i w ≡ 1)) (ones (w / 2))
+  upper =
+      count-image (λ i. bit i (w / 2) ≡ 1) (λ i. (0 < i) × (bit i w ≡ 1)) (ones (w / 2)) suc (λ i e. (omega arith, bit-suc i w ∙ e))
+      (λ i p. from i (p .0) (p .1))
+      (λ i j p q e. omega arith) half
+    where
+      from : (i : ℕ) → 0 < i → bit i w ≡ 1 → (j : ℕ) × ((bit j (w / 2) ≡ 1) × (i ≡ suc j))
+      from zero l e = absurd (omega arith)
+      from (suc i) l e = (i, (sym (bit-suc i w) ∙ e, refl))
+
+  digits-more : Count (λ i. bit i w ≡ 1) (ones w)
+  digits-more =
+      by-cases (ℕ-discrete (w % 2) 1)
+      (λ o. subst (Count (λ i. bit i w ≡ 1)) (omega (arith, ones-step w))
+      (count-same (λ i. (i ≡ 0) ⊎ ((0 < i) × (bit i w ≡ 1))) (λ i. bit i w ≡ 1) (suc (ones (w / 2)))
+      (λ i p. ⊎-elim (λ e. ap (λ (j : ℕ). bit j w) e ∙ lowest ∙ o) (λ q. q .1) p)
+      (λ i e. by-cases (ℕ-discrete i 0) (λ z. inl z) (λ ne. inr (omega arith, e)))
+      (count-add (λ i. (0 < i) × (bit i w ≡ 1)) (ones (w / 2)) 0 upper (λ p. omega (arith, p .0)))))
+      (λ n. subst (Count (λ i. bit i w ≡ 1)) (omega (arith, ones-step w))
+      (count-same (λ i. (0 < i) × (bit i w ≡ 1)) (λ i. bit i w ≡ 1) (ones (w / 2))
+      (λ i p. p .1)
+      (λ i e. by-cases (ℕ-discrete i 0) (λ z. absurd (n (sym lowest ∙ ap (λ (j : ℕ). bit j w) (sym z) ∙ e))) (λ ne. (omega arith, e)))
+      upper))
+    where
+      lowest : bit 0 w ≡ w % 2
+      lowest = let e : w / 1 ≡ w = omega arith in ap (λ (x : ℕ). x % 2) e
+
+pub count-digits : (w : ℕ) → Count (λ i. bit i w ≡ 1) (ones w)
+count-digits =
+    bin-ind (λ (w : ℕ). Count (λ i. bit i w ≡ 1) (ones w))
+    (subst (Count (λ i. bit i 0 ≡ 1)) (sym ones-zero) (count-none (λ i. bit i 0 ≡ 1) (λ i e. omega (arith, bit-none i))))
+    digits-more

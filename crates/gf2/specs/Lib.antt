@@ -7,6 +7,7 @@ pub mod Vec
 pub mod Members
 pub mod Places
 pub mod Lists
+pub mod Sums
 pub mod Counts
 pub mod Letters
 pub mod Fill

@@ -18,7 +18,7 @@ Different [] = Unit
 Different (x ∷ xs) = (In x xs → ⊥) × Different xs
 
 -- the list less the place at which x is found
-abbrev without : (x : ℕ) (ys : List ℕ) → In x ys → List ℕ
+abbrev pub without : (x : ℕ) (ys : List ℕ) → In x ys → List ℕ
 without x [] m = []
 without x (y ∷ ys) (inl e) = ys
 without x (y ∷ ys) (inr m) = y ∷ without x ys m
@@ -28,7 +28,7 @@ without-length x [] m = absurd m
 without-length x (y ∷ ys) (inl e) = refl
 without-length x (y ∷ ys) (inr m) = ap suc (without-length x ys m)
 
-without-keeps : (x : ℕ) (ys : List ℕ) (m : In x ys) (z : ℕ) → z ≢ x → In z ys → In z (without x ys m)
+pub without-keeps : (x : ℕ) (ys : List ℕ) (m : In x ys) (z : ℕ) → z ≢ x → In z ys → In z (without x ys m)
 without-keeps x [] m z ne h = absurd m
 without-keeps x (y ∷ ys) (inl e) z ne (inl f) = absurd (ne (f ∙ sym e))
 without-keeps x (y ∷ ys) (inl e) z ne (inr h) = h

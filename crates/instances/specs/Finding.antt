@@ -29,8 +29,8 @@ use Rattle.beating_laws.specs.Mirrors.{Clear, clear-all}
 use Rattle.canonical.specs.Reaching.{Reaches, reaches-blank}
 use Rattle.canonical.specs.Forming.{Sourced, Form, tested-length}
 use Rattle.comparison.specs.Matching.{Imaged}
-use Rattle.profiles.specs.Order.{Most}
-use Rattle.profiles.specs.OrderSteps.{most-none}
+use Rattle.basics.specs.Order.{Most}
+use Rattle.basics.specs.OrderSteps.{most-none}
 use Rattle.instances.specs.Searching.{column, marks, sums, one-on, tables-1, presence-1}
 use Rattle.instances.specs.Walking.{first, blank-128, rising-1, held-1}
 
