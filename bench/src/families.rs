@@ -43,13 +43,13 @@ fn draw(random: &mut Random, n: usize, m: usize, how: Draw) -> Vec<u32> {
 }
 
 /// The plan with its factors in another order and its columns in other basic factors.
-fn disguise(random: &mut Random, m: usize, columns: &[u32]) -> Vec<u8> {
+pub fn disguise(random: &mut Random, m: usize, columns: &[u32]) -> Vec<u8> {
     let mut other = in_other_basics(random, m, columns);
     random.shuffle(&mut other);
     bytes(&other)
 }
 
-fn pattern_of(m: usize, columns: &[u32]) -> [u16; 17] {
+pub fn pattern_of(m: usize, columns: &[u32]) -> [u16; 17] {
     let n = columns.len();
     pattern(n, n - m, &admit(n, n - m, &bytes(columns)).expect("a plan"))
 }

@@ -1,6 +1,7 @@
 //! Measures the comparison of two plans, through the exported function on columns, against the same steps in plain Rust and against
-//! canonical labels by nauty, on the same pairs. Prints a Markdown table.
+//! canonical labels by nauty, on the same pairs. Prints a Markdown table: of families of pairs, or with the word `entries` of pairs of every size.
 
+mod entries;
 mod families;
 mod nauty;
 mod plain;
@@ -115,10 +116,53 @@ fn families() -> Vec<Family> {
     list
 }
 
-fn main() {
+fn print_families() {
     println!(
         "| pairs | N | M | answer | number | library | worst | plain Rust | worst | library / plain | nauty | worst | library / nauty | behind |"
     );
     println!("|---|---|---|---|---|---|---|---|---|---|---|---|---|---|");
     families().iter().for_each(print_row);
+}
+
+/// The pairs of all sizes with one number of basic factors: those that are the same, and those that are different.
+fn print_entries(m: usize) {
+    let families = entries::families(m);
+    for same in [true, false] {
+        let (mut ours, mut nauty) = (Vec::new(), Vec::new());
+        for family in families.iter().filter(|family| family.same == same) {
+            confirm(family);
+            let [library, _, labels] = measure(family);
+            ours.extend(library);
+            nauty.extend(labels);
+        }
+        let ratios: Vec<f64> = ours.iter().zip(&nauty).map(|(ours, nauty)| ours / nauty).collect();
+        let behind = ratios.iter().filter(|&&ratio| ratio > 1.0).count();
+        let answer = if same { "same" } else { "different" };
+        if ours.is_empty() {
+            continue;
+        }
+        println!(
+            "| {m} | {m} to {} | {answer} | {} | {:.2} | {:.2} | {:.1} | {:.1} | {:.3} | {:.3} | {behind} |",
+            16.min((1 << m) - 1),
+            ours.len(),
+            mean(&ours),
+            worst(&ours),
+            mean(&nauty),
+            worst(&nauty),
+            mean(&ours) / mean(&nauty),
+            worst(&ratios),
+        );
+    }
+}
+
+fn main() {
+    match std::env::args().nth(1).as_deref() {
+        None => print_families(),
+        Some("entries") => {
+            println!("| M | N | answer | number | library | worst | nauty | worst | library / nauty | worst pair | behind |");
+            println!("|---|---|---|---|---|---|---|---|---|---|---|");
+            (1..=7).for_each(print_entries);
+        }
+        Some(word) => panic!("not `entries`: {word}"),
+    }
 }
