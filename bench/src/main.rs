@@ -1,10 +1,12 @@
 //! Measures the comparison of two plans, through the exported function on columns, against the same steps in plain Rust and against
-//! canonical labels by nauty, on the same pairs. Prints a Markdown table: of families of pairs, or with the word `entries` of pairs of every size.
+//! canonical labels by nauty, on the same pairs. Prints a Markdown table: of families of pairs; with the word `entries` of pairs of
+//! every size; with the word `smallest` of the smallest forms of the plans of families.
 
 mod entries;
 mod families;
 mod nauty;
 mod plain;
+mod smallest;
 
 use families::{Draw, Family};
 use plain::admission::admit;
@@ -163,6 +165,11 @@ fn main() {
             println!("|---|---|---|---|---|---|---|---|---|---|---|");
             (1..=7).for_each(print_entries);
         }
-        Some(word) => panic!("not `entries`: {word}"),
+        Some("smallest") => {
+            println!("| plans | N | M | number | library | worst | nauty | worst | library / nauty |");
+            println!("|---|---|---|---|---|---|---|---|---|");
+            families().iter().filter(|family| family.same).for_each(smallest::print_row);
+        }
+        Some(word) => panic!("neither `entries` nor `smallest`: {word}"),
     }
 }

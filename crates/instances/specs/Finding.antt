@@ -171,6 +171,7 @@ form-1 = (
   kept 1,
   record {
     rising = rising-1;
+    units = units-1;
     carries = carries-refl 1 (planOf 1 1 column) (plan-within 1 1 column);
     unused = held-1 .rest;
   },
