@@ -63,7 +63,7 @@ pub going-1 : Going marks (1 ∷ replicate 7 0) column marks sums 1 1 0 1 (repli
 going-1 = record {
   most = omega arith;
   few = omega arith;
-  within = omega arith;
+  room = omega arith;
   long = refl;
   tables = tables-1;
   origin = refl;
