@@ -20,8 +20,9 @@ use Rattle.isomorphism_laws.specs.Renamings.{kept}
 use Rattle.isomorphism_laws.specs.SamePlan.{carries-refl}
 use Rattle.smallest_laws.specs.Pulled.{pulled}
 use Rattle.smallest_laws.specs.UnitForms.{rising-plain}
-use Rattle.search.specs.Search.{On, Alike, Tables, Presence}
-use Rattle.search.specs.Steps.{Block, Blocks, Low, At, Own, Scanning, Going}
+use Rattle.search.specs.Search.{On, Picks, Free, Alike, Placed, Tables, Presence}
+use Rattle.search.specs.Steps.{Block, Blocks, HasUnits, Low, Left, At, Own, Scanning, Going}
+use Rattle.search.specs.Masks.{off}
 use Rattle.beating_laws.specs.Above.{Above}
 use Rattle.beating_laws.specs.Branches.{Counts}
 use Rattle.beating_laws.specs.Carried.{AllCarried, carried-none}
@@ -58,6 +59,12 @@ low-1 = member (λ k. (k < 64) × (getD marks (1 + k) 0 < 128)) (omega arith, om
 pub own-1 : Own sums marks 1
 own-1 i o = o
 
+pub has-units-1 : HasUnits marks 1
+has-units-1 = first (λ d. getD marks (2 ^ d) 0 ≡ 0 → ⊥) (λ e. omega arith)
+
+pub columns-some-1 : (i : ℕ) → i < 1 → 0 < getD column i 0
+columns-some-1 = first (λ i. 0 < getD column i 0) (omega arith)
+
 -- the search from no image on, and its scan of the place 1
 pub going-1 : Going marks (1 ∷ replicate 7 0) column marks sums 1 1 0 1 (replicate 128 0)
 going-1 = record {
@@ -68,9 +75,20 @@ going-1 = record {
   tables = tables-1;
   origin = refl;
   small = first (λ k. getD (replicate 128 0) k 0 < 128) (omega arith);
+  units = has-units-1;
   blocks = blocks-1;
   factors = member (λ i. i < 1) (omega arith);
 }
+
+pub images-1 : Placed marks column (replicate 8 65535) 1 0 (replicate 128 0) []
+unfolding Picks Free vec
+images-1 = record {
+  even = record { count = refl; picks = tt; free = λ k p l. absurd (omega arith); alike = λ k p l. absurd (omega arith) };
+  filled = first (λ k. getD (replicate 128 0) k 0 ≡ vec [] k) refl;
+}
+
+pub left-1 : Left marks (replicate 128 0) 1 1 1
+left-1 = record { sub = λ i o. (o, first (λ j. On i (getD marks (getD (replicate 128 0) j 0) 0) → ⊥) (λ u. off i 0 refl u)); out = λ i o. inl o }
 
 pub scanning-1 : Scanning true marks sums (replicate 128 0) 1 1 1 1
 scanning-1 = record {
