@@ -69,16 +69,27 @@ held-same F G s sums places h o =
 pub grown-none : (c half : ℕ) (s p : List ℕ) → Grown c half 0 s p s p
 grown-none c half s p =
     let e : half ≡ half + 0 = omega arith in
-    record { long = refl; wide = refl; low = λ i h. refl; held = λ F d h. subst (λ (x : ℕ). Held F x s p) e h }
+    record {
+      copied = copied-none c half s;
+      wide = refl;
+      last = λ i h. absurd (omega arith);
+      kept = λ v h. refl;
+      held = λ F d h. subst (λ (x : ℕ). Held F x s p) e h;
+    }
 
 pub grown-more : (c half k z : ℕ) (s p sums places : List ℕ) → k < half → half + k < length sums → z ≡ bitXor (getD sums k 0) c → z < length places
     → Grown c half k s p sums places → Grown c half (k + 1) s p (set sums (half + k) (bitXor (getD sums k 0) c)) (set places z (half + k + 1))
 grown-more c half k z s p sums places hk ls q lp g =
     let v = bitXor (getD sums k 0) c in
+    let at : bitXor (getD s k 0) c ≡ z = ap (λ (x : ℕ). bitXor x c) (sym (g .copied .low k hk)) ∙ sym q in
     record {
-      long = length-set sums (half + k) v ∙ g .long;
+      copied = copied-more c half k s sums hk ls (g .copied);
       wide = length-set places z (half + k + 1) ∙ g .wide;
-      low = λ i h. getD-set-other sums (half + k) i v 0 (λ e. omega arith) ∙ g .low i h;
+      last = λ i h none. by-cases (ℕ-discrete i k)
+          (λ e. rw (e, at) (getD-set-same places z (half + k + 1) 0 lp))
+          (λ ne. getD-set-other places z (bitXor (getD s i 0) c) (half + k + 1) 0 (λ e. none k (omega arith) (omega arith) (at ∙ sym e))
+          ∙ g .last i (omega arith) (λ j p l. none j p (omega arith)));
+      kept = λ u none. getD-set-other places z u (half + k + 1) 0 (λ e. none k (omega arith) (at ∙ sym e)) ∙ g .kept u (λ i h. none i (omega arith));
       held = λ F d h.
           let o = g .held F d h in
           let e : v ≡ F (half + k) = ap (λ (x : ℕ). bitXor x c) (o .filled k (omega arith)) ∙ sym (d .next k hk) in

@@ -26,11 +26,13 @@ pub record Doubles (F : ℕ → ℕ) (c half : ℕ) : Type 0 where
   pub next : (k : ℕ) → k < half → F (half + k) ≡ bitXor (F k) c
   pub once : (i j : ℕ) → i < half + half → j < half + half → F i ≡ F j → i ≡ j
 
--- the two tables, at first s and p, with k sums more: whatever F they held below half, they hold it below half + k
+-- the two tables, at first s and p, with k sums more: a place in `places` is that of the last such sum, if it is one, and as it was if not.
+-- So whatever F they held below half, they hold it below half + k
 pub record Grown (c half k : ℕ) (s p sums places : List ℕ) : Type 0 where
-  pub long : length sums ≡ length s
+  pub copied : Copied c half k s sums
   pub wide : length places ≡ length p
-  pub low : (i : ℕ) → i < half → getD sums i 0 ≡ getD s i 0
+  pub last : (i : ℕ) → i < k → ((j : ℕ) → i < j → j < k → bitXor (getD s j 0) c ≡ bitXor (getD s i 0) c → ⊥) → getD places (bitXor (getD s i 0) c) 0 ≡ half + i + 1
+  pub kept : (v : ℕ) → ((i : ℕ) → i < k → bitXor (getD s i 0) c ≡ v → ⊥) → getD places v 0 ≡ getD p v 0
   pub held : (F : ℕ → ℕ) → Doubles F c half → Held F half s p → Held F (half + k) sums places
 
 -- seen marks 0 and the first f columns, and no other number; these columns are plain

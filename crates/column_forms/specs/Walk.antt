@@ -1,15 +1,14 @@
 -- The walk over columns that finds their standard columns by span doubling: what holds after f of them, its steps, and what it has found.
 use mathlib.Core.Path.{_≡_, refl, sym, ap, _∙_, subst}
 use mathlib.Core.Logic.{by-cases}
-use mathlib.Core.Bool.{Bool, true, false}
+use mathlib.Core.Bool.{true, false}
 use mathlib.Core.List.{List, [], _∷_, _++_}
 use Prim.Native.Nat.{ℕ, suc, _+_, _-_, _^_, _≤_, _<_}
 use native.Mathlib.Nat.{two-pow-succ}
 use native.Mathlib.Numerals.{add-one}
 use native.Mathlib.Omega.{arith}
 use native.Mathlib.Decide.{ℕ-discrete}
-use borrow.Author.Tests.{eqb-true, eqb-false, ne-eqb}
-use lib.Dec.{eqb}
+use borrow.Author.Tests.{ne-eqb}
 use lib.Bits.{bitXor}
 use lib.Pow.{pow-pos, pow-mono}
 use lib.ListN.{length, getD, set, replicate, length-append}
@@ -18,7 +17,8 @@ use Rattle.gf2.specs.DigitLaws.{pow-inj}
 use Rattle.gf2.specs.Fill.{zeros}
 use Rattle.regular.specs.Columns.{runOf, planOf, Below, Spans}
 use Rattle.regular.specs.Words.{total, Independent}
-use Rattle.standard.specs.Form.{unitsBefore, StandardFor, Found}
+use Rattle.standard.specs.Form.{unitsBefore, StandardFor}
+use Rattle.standard.specs.Finding.{Found, is-found, not-found}
 use Rattle.standard.specs.Runs.{run-lt, total-lt}
 use Rattle.standard.specs.Total.{total-none, InSpan, span-at, span-total, independent-once}
 use Rattle.standard.specs.Units.{units-next}
@@ -221,24 +221,14 @@ module _ (n m : ℕ) (c : List ℕ) (half : ℕ) (sums places a : List ℕ) (bel
       let e : r ≡ m = omega (arith, w .most) in
       ne (w .size ∙ ap (λ (k : ℕ). 2 ^ k) e)
 
-  found : (ok : Bool) → eqb half (2 ^ m) ≡ ok → Found n m (Spans n m c) (planOf n m c) ok a
-  found true e =
-      let full = eqb-true half (2 ^ m) e in
-      record {
-        possible = λ _. full-spans full;
-        impossible = λ q. let z : _≡_ {A = ℕ} 0 1 = cc in absurd (omega arith);
-        standard = λ _. full-standard full;
-        unused = w .unused;
-      }
-  found false e =
-      record {
-        possible = λ q. let z : _≡_ {A = ℕ} 0 1 = cc in absurd (omega arith);
-        impossible = λ _. short-spans (eqb-false half (2 ^ m) e);
-        standard = λ q. let z : _≡_ {A = ℕ} 0 1 = cc in absurd (omega arith);
-        unused = w .unused;
-      }
+pub walk-full : (n m : ℕ) (c : List ℕ) (f half : ℕ) (sums places a : List ℕ) → Below n m c → f ≡ n → Walk n m c f half sums places a → half ≡ 2 ^ m
+    → Found n m (Spans n m c) (planOf n m c) true a
+walk-full n m c f half sums places a below e walk full =
+    let w : Walk n m c n half sums places a = subst (λ (g : ℕ). Walk n m c g half sums places a) e walk in
+    is-found n m (Spans n m c) (planOf n m c) a (full-spans n m c half sums places a below w full) (full-standard n m c half sums places a below w full) (w .unused)
 
-pub walk-found : (n m : ℕ) (c : List ℕ) (f half end : ℕ) (sums places a : List ℕ) → Below n m c → f ≡ n → end ≡ 2 ^ m
-    → Walk n m c f half sums places a → Found n m (Spans n m c) (planOf n m c) (eqb half end) a
-walk-found n m c f half end sums places a below e q w =
-    found n m c half sums places a below (subst (λ (g : ℕ). Walk n m c g half sums places a) e w) (eqb half end) (ap (eqb half) (sym q))
+pub walk-short : (n m : ℕ) (c : List ℕ) (f half : ℕ) (sums places a : List ℕ) → Below n m c → f ≡ n → Walk n m c f half sums places a → (half ≡ 2 ^ m → ⊥)
+    → Found n m (Spans n m c) (planOf n m c) false (replicate 16 0)
+walk-short n m c f half sums places a below e walk short =
+    not-found n m (Spans n m c) (planOf n m c)
+    (short-spans n m c half sums places a below (subst (λ (g : ℕ). Walk n m c g half sums places a) e walk) short)

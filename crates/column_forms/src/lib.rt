@@ -4,7 +4,8 @@ ghost use mathlib.Core.Bool.{true, false};
 ghost use Prim.Native.Nat.{ℕ, _^_, _<_, _≤_};
 ghost use lib.ListN.{length, getD};
 ghost use Rattle.regular.specs.Columns.{planOf, Below, Spans, RunTable, runOf};
-ghost use Rattle.standard.specs.Form.{Found, Plain, Repeat};
+ghost use Rattle.standard.specs.Form.{Plain, Repeat};
+ghost use Rattle.standard.specs.Finding.{Found};
 ghost use Rattle.column_forms.specs.Tables.{Copied, Grown};
 use regular::Standardized;
 
@@ -49,8 +50,13 @@ pub fn standardize(n: usize, m: usize, cols: [u8; 16]) -> Standardized
         half += half;
         f += 1;
     }
-    let ok = half == 1 << m;
-    Standardized { ok, columns }
+    if half != 1 << m {
+        return Standardized {
+            ok: false,
+            columns: [0u8; 16],
+        };
+    }
+    Standardized { ok: true, columns }
 }
 
 // Whether no column is 0 and none stands twice.

@@ -8,6 +8,7 @@ use native.Mathlib.Omega.{arith}
 use native.Mathlib.Decide.{ℕ-discrete}
 use lib.ListN.{length, getD, replicate}
 use Rattle.gf2.specs.Fill.{zeros}
+use Rattle.gf2.specs.Lists.{listTo}
 use Rattle.gf2.specs.Members.{In}
 use Rattle.gf2.specs.Vec.{vec}
 use Rattle.regular.specs.Columns.{planOf}
@@ -185,6 +186,7 @@ pub sourced-1 : Sourced 1 column column marks
 sourced-1 = first (λ g. (j : ℕ) × ((j < 1) × (getD marks (getD column j 0) 0 ≡ getD column g 0))) (0, (omega arith, refl))
 
 pub form-1 : (names : List ℕ) × Form 1 1 column column names
+unfolding listTo
 form-1 = (
   kept 1,
   record {
@@ -192,8 +194,13 @@ form-1 = (
     units = units-1;
     carries = carries-refl 1 (planOf 1 1 column) (plan-within 1 1 column);
     unused = held-1 .rest;
+    spare = past;
   },
 )
+  where
+    past : (f : ℕ) → 1 ≤ f → getD (kept 1) f 0 ≡ 0
+    past zero l = absurd (omega arith)
+    past (suc f) l = refl
 
 -- the comparison: the image names a factor; keys of no factor; each column has a place
 pub imaged-1 : Imaged 1 column marks marks

@@ -2,7 +2,6 @@
 -- That they are the standard columns of document 01, and the only ones, is proved in the crate words (`form-standard`, `standard-columns-unique`).
 use Prim.Native.Nat.{ℕ, zero, suc, _+_, _^_, _≤_, _<_}
 use mathlib.Core.Path.{_≡_}
-use mathlib.Core.Bool.{Bool, true, false}
 use mathlib.Core.List.{List}
 use lib.Dec.{eqb}
 use lib.ListN.{getD}
@@ -38,10 +37,3 @@ pub record Plain (n : ℕ) (c : List ℕ) : Type 0 where
 pub data Repeat (n : ℕ) (c : List ℕ) : Type 0 where
   none : (f : ℕ) → f < n → getD c f 0 ≡ 0 → Repeat n c
   twice : (f g : ℕ) → f < g → g < n → getD c f 0 ≡ getD c g 0 → Repeat n c
-
--- the answer of a search for the standard columns of s: they were found exactly if it is possible; places past n are 0
-pub record Found (n m : ℕ) (Possible : Type 0) (s : Runs) (ok : Bool) (a : List ℕ) : Type 0 where
-  pub possible : ok ≡ true → Possible
-  pub impossible : ok ≡ false → Possible → ⊥
-  pub standard : ok ≡ true → StandardFor n m s a
-  pub unused : (f : ℕ) → n ≤ f → getD a f 0 ≡ 0

@@ -1,4 +1,5 @@
 pub mod Form
+pub mod Finding
 pub mod Model
 pub mod Coordinates
 pub mod Runs

@@ -1,6 +1,6 @@
 -- The end of the walk: the runs are different and regular exactly if their basic levels are different, and then the columns are the standard ones.
-use mathlib.Core.Path.{_≡_, sym, ap, ap₂, _∙_, subst}
-use mathlib.Core.Bool.{Bool, false}
+use mathlib.Core.Path.{_≡_, refl, sym, ap, ap₂, _∙_, subst}
+use mathlib.Core.Bool.{true, false}
 use mathlib.Core.List.{List}
 use Prim.Native.Nat.{ℕ, _^_, _<_}
 use native.Mathlib.Nat.{mod-eq-of-lt}
@@ -12,11 +12,10 @@ use Rattle.gf2.specs.DigitLaws.{xor-assoc, xor-back, xor-4, pow-le-inv}
 use Rattle.gf2.specs.Lists.{fewer, upto, upto-in, upto-length, listTo, to-length, of-to, to-different}
 use Rattle.gf2.specs.Members.{In, pigeon}
 use Rattle.gf2.specs.Places.{place-in, in-place, different-once, once-different}
-use Rattle.gf2.specs.Fill.{zeros}
 use Rattle.regular.specs.Columns.{runOf, planOf}
 use Rattle.regular.specs.Runs.{Agree, Table, runsOf, switched}
 use Rattle.standard.specs.Coordinates.{coord-lt}
-use Rattle.standard.specs.Form.{Found}
+use Rattle.standard.specs.Finding.{Found, is-found, not-found}
 use Rattle.standard.specs.FromTable.{run-is}
 use Rattle.standard.specs.Model.{coordOf}
 use Rattle.standard.specs.Runs.{run-xor}
@@ -122,25 +121,18 @@ module _ (n m : ℕ) (t : List ℕ) (w : Walked) (count : length t ≡ 2 ^ m) (w
       let d : diffAt t x ≡ diffAt t i = runs-at x hx ∙ ap (runOf (w .columns) n) e ∙ sym (runs-at i h) in
       ne (different-once t (tab .different) x i hx h (sym (xor-back (getD t x 0) r) ∙ ap (λ (y : ℕ). bitXor y r) d ∙ xor-back (getD t i 0) r))
 
-  pub verdict : (ok : Bool) → AllLast (length t) (w .coords) (w .place) ok → Found n m (Table n m t) (switched (getD t 0 0) (runsOf t)) ok (w .columns)
-  verdict ok l =
+  -- each run is the last with its levels: the table is regular
+  pub verdict-regular : AllLast (length t) (w .coords) (w .place) true → Found n m (Table n m t) (switched (getD t 0 0) (runsOf t)) true (w .columns)
+  verdict-regular l =
       let g = coordOf (s .bs) in
-      record {
-        possible = λ e. table-is n m t (w .columns) g count within runs-at below-at (once-at (l .all e));
-        impossible = λ e tab. let r = l .some e in repeat-refused (r .0) (r .1 .0) (r .1 .1) tab;
-        standard = λ e. record {
-          form = record { next = s .next; units = s .units ∙ rank-at (once-at (l .all e)) };
-          plan = table-plan n m t (w .columns) g count within runs-at below-at (once-at (l .all e));
-        };
-        unused = s .unused;
-      }
+      let once = once-at (l .all refl) in
+      is-found n m (Table n m t) (switched (getD t 0 0) (runsOf t)) (w .columns)
+      (table-is n m t (w .columns) g count within runs-at below-at once)
+      (record {
+        form = record { next = s .next; units = s .units ∙ rank-at once };
+        plan = table-plan n m t (w .columns) g count within runs-at below-at once;
+      })
+      (s .unused)
 
--- the answer where the walk ended early
-pub verdict-refused : (n m : ℕ) (t : List ℕ) → (Table n m t → ⊥) → Found n m (Table n m t) (switched (getD t 0 0) (runsOf t)) false (replicate 16 0)
-verdict-refused n m t h =
-    record {
-      possible = λ e. let z : _≡_ {A = ℕ} 0 1 = cc in absurd (omega arith);
-      impossible = λ e tab. h tab;
-      standard = λ e. let z : _≡_ {A = ℕ} 0 1 = cc in absurd (omega arith);
-      unused = λ f l. zeros 16 f;
-    }
+  pub verdict-repeat : AllLast (length t) (w .coords) (w .place) false → Found n m (Table n m t) (switched (getD t 0 0) (runsOf t)) false (replicate 16 0)
+  verdict-repeat l = not-found n m (Table n m t) (switched (getD t 0 0) (runsOf t)) (λ tab. let r = l .some refl in repeat-refused (r .0) (r .1 .0) (r .1 .1) tab)

@@ -7,7 +7,7 @@ ghost use Prim.Native.Nat.{ℕ, _+_, _*_, _^_, _<_, _≤_};
 ghost use lib.ListN.{length, getD};
 ghost use Rattle.gf2.specs.Members.{In};
 ghost use Rattle.regular.specs.Runs.{Table, switched, runsOf};
-ghost use Rattle.standard.specs.Form.{Found};
+ghost use Rattle.standard.specs.Finding.{Found};
 ghost use Rattle.table_forms.specs.Walk.{Latest, Candidate, Fitting, Extended, Walk, Followed, Grown, Reached, AllLast};
 
 // Whether every run is below `end`.
@@ -264,6 +264,11 @@ pub fn table_columns(n: usize, m: usize, t: &[u16]) -> regular::Standardized
     let columns = w.columns;
     let coords = w.coords;
     let place = w.place;
-    let ok = all_last(t.len(), &coords, &place);
-    regular::Standardized { ok, columns }
+    if !all_last(t.len(), &coords, &place) {
+        return regular::Standardized {
+            ok: false,
+            columns: [0u8; 16],
+        };
+    }
+    regular::Standardized { ok: true, columns }
 }

@@ -14,9 +14,9 @@ use lib.Dec.{eqb}
 use lib.ListN.{getD, set, replicate}
 use lib.Pow.{pow-mono}
 use Rattle.gf2.specs.Digits.{bit, pick}
-use Rattle.gf2.specs.Fill.{Filled, fill-unused, zeros}
+use Rattle.gf2.specs.Fill.{Filled, fill-unused}
 use Rattle.regular.specs.Words.{total, Generated, Independent}
-use Rattle.standard.specs.Form.{Found}
+use Rattle.standard.specs.Finding.{Found, is-found}
 use Rattle.standard.specs.Total.{total-cols}
 use Rattle.words.specs.FromWords.{wc-at, pivots-words}
 use Rattle.words.specs.Model.{reduced, lastOf, freeBefore, wordColumns, Pivots}
@@ -130,18 +130,6 @@ unit-small n piv f unit h l e =
 pub found-done : (n g : ℕ) (ws piv a : List ℕ) → g ≤ n → Pivots n g ws piv → Filled (columnOf piv n) zeros16 n a
     → Found n (n - g) (Independent g ws) (Generated n g ws) true a
 found-done n g ws piv a hg P fill =
-    record {
-      possible = λ e. P .free;
-      impossible = λ e. absurd (true≢false e);
-      standard = λ e. standard-cols n (n - g) (Generated n g ws) (wordColumns piv n) a (pivots-words n g ws piv hg P) (λ f h. sym (fill .done f h));
-      unused = fill-unused (columnOf piv n) 16 n a fill;
-    }
-
-pub found-not : (n g : ℕ) (ws : List ℕ) → (Independent g ws → ⊥) → Found n (n - g) (Independent g ws) (Generated n g ws) false zeros16
-found-not n g ws h =
-    record {
-      possible = λ e. absurd (false≢true e);
-      impossible = λ e. h;
-      standard = λ e. absurd (false≢true e);
-      unused = λ f l. zeros 16 f;
-    }
+    is-found n (n - g) (Independent g ws) (Generated n g ws) a (P .free)
+    (standard-cols n (n - g) (Generated n g ws) (wordColumns piv n) a (pivots-words n g ws piv hg P) (λ f h. sym (fill .done f h)))
+    (fill-unused (columnOf piv n) 16 n a fill)

@@ -8,7 +8,7 @@ ghost use lib.ListN.{length, getD, replicate};
 ghost use Rattle.gf2.specs.Digits.{bit, pick};
 ghost use Rattle.gf2.specs.Fill.{Filled};
 ghost use Rattle.regular.specs.Words.{total, Generated, Independent};
-ghost use Rattle.standard.specs.Form.{Found};
+ghost use Rattle.standard.specs.Finding.{Found};
 ghost use Rattle.words.specs.Model.{reduced, lastOf, freeBefore};
 ghost use Rattle.word_forms.specs.Turns.{columnOf, Elimination};
 

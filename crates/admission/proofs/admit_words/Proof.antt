@@ -11,7 +11,7 @@ use Rattle.admission.specs.Faults.{words-0, words-4, words-5, words-6, w
 use Rattle.admission.specs.Admitting.{answered, size-refusal, accepted, plan-answered}
 use lib.ListN.{length, getD}
 use Rattle.regular.specs.Refusals.{wordsFaults, WordsFault}
-use Rattle.standard.specs.Form.{Found}
+use Rattle.standard.specs.Finding.{Found}
 use Rattle.regular.specs.Words.{Generated, Independent}
 use Rattle.standard.specs.Units.{standard-below, below-128}
 use Rattle.regular.specs.RefusalLaws.{words-least}

@@ -19,7 +19,7 @@ trailhead-requires : tie.Need-trailhead-requires Inv-loop μ-loop
 trailhead-requires c κs = search needs
 
 loop-holds : tie.Need-loop-holds Inv-loop μ-loop
-loop-holds c = filling-none _ _ _ _ _ _ (c .trailhead .ensures)
+loop-holds c = filling-none _ _ _ _ _ _ (c .trailhead .ensures .0)
 
 sub-room : tie.Need-sub-room Inv-loop μ-loop
 sub-room c = let x = c .loop .inv in omega (arith, x .room, x .size)

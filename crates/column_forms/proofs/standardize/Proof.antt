@@ -1,11 +1,11 @@
 -- `column_forms::standardize` meets its contract: after f columns the tables are those of the walk over f columns, by a column whose place is
 -- known or by one that doubles them; the walk over all columns has found what it can. The measure is what is left of the columns. Assumes nothing.
-use mathlib.Core.Path.{_≡_, refl, _∙_}
-use Prim.Native.Nat.{_-_, _*_, _%_, _^_, _≤_}
+use mathlib.Core.Path.{_≡_, refl, sym, _∙_}
+use Prim.Native.Nat.{ℕ, _-_, _*_, _%_, _^_, _≤_}
 use native.Mathlib.Omega.{arith}
 use lib.ListN.{length}
 use lib.Pow.{shl-exact, pow-mono}
-use Rattle.column_forms.specs.Walk.{Walk, walk-none, walk-old, walk-new, walk-room, walk-sums, walk-found}
+use Rattle.column_forms.specs.Walk.{Walk, walk-none, walk-old, walk-new, walk-room, walk-sums, walk-full, walk-short}
 use borrow.Author.Needs.{needs}
 use Rattle.column_forms.proofs.standardize.Statement.{statement}
 use Rattle.column_forms.proofs.standardize.Tie as tie
@@ -15,6 +15,9 @@ Inv-loop n m cols columns₀ sums₀ places₀ half₀ f₀ columns sums places 
 
 abbrev μ-loop : tie.MeasureT-loop
 μ-loop n m cols columns₀ sums₀ places₀ half₀ f₀ columns sums places half f = n - f
+
+full : (m : ℕ) → m ≤ 7 → 1 * 2 ^ m % 2 ^ 64 ≡ 2 ^ m
+full m h = shl-exact 1 m 64 (omega arith) (omega arith) ∙ omega arith
 
 array-write-places : tie.Need-array-write-places Inv-loop μ-loop
 array-write-places c = search needs
@@ -94,20 +97,23 @@ loop-again-2 c =
     let g = c .double .ensures in (
       omega arith,
       search needs,
-      g .long ∙ i .2,
+      g .copied .size ∙ i .2,
       g .wide ∙ i .3,
       walk-new _ _ _ _ _ _ _ _ (i .4) (omega arith) (at .before .pre .2) (omega arith) _ (o .before .wide-byte .ensures .0) (o .if1 .left) _ _ g,
     )
 
-shl-ok : tie.Need-shl-ok Inv-loop μ-loop
-shl-ok c = search needs
+shl-if2 : tie.Need-shl-if2 Inv-loop μ-loop
+shl-if2 c = search needs
 
 returns : tie.Need-returns Inv-loop μ-loop
 returns c =
-    let at = c .before in
-    let m = at .before .args .m in
-    let e : 1 * 2 ^ m % 2 ^ 64 ≡ 2 ^ m = shl-exact 1 m 64 (omega arith) (omega arith) ∙ omega arith in
-    walk-found _ _ _ _ _ _ _ _ _ (at .before .pre .2) (omega arith) e (at .loop .inv .4)
+    let at = c .before .before in
+    walk-short _ _ _ _ _ _ _ _ (at .before .pre .2) (omega arith) (at .loop .inv .4) (λ e. c .if2 .taken (e ∙ sym (full (at .before .args .m) (at .before .pre .1))))
+
+returns-2 : tie.Need-returns-2 Inv-loop μ-loop
+returns-2 c =
+    let at = c .before .before in
+    walk-full _ _ _ _ _ _ _ _ (at .before .pre .2) (omega arith) (at .loop .inv .4) (c .if2 .left ∙ full (at .before .args .m) (at .before .pre .1))
 
 pub standardize-spec : {M : Type 1} → statement M
 standardize-spec =
@@ -132,5 +138,6 @@ standardize-spec =
     add-f-2
     loop-less-2
     loop-again-2
-    shl-ok
-    returns)
+    shl-if2
+    returns
+    returns-2)

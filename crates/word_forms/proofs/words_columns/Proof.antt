@@ -3,8 +3,11 @@
 use native.Mathlib.Omega.{arith}
 use borrow.Author.Needs.{needs}
 use borrow.Author.Tests.{not-true, not-false}
+use Prim.Native.Nat.{_-_}
 use lib.ListN.{length}
-use Rattle.word_forms.specs.Turns.{found-done, found-not}
+use Rattle.regular.specs.Words.{Independent, Generated}
+use Rattle.standard.specs.Finding.{not-found}
+use Rattle.word_forms.specs.Turns.{found-done}
 use Rattle.word_forms.proofs.words_columns.Statement.{statement}
 use Rattle.word_forms.proofs.words_columns.Tie as tie
 
@@ -16,7 +19,7 @@ returns c =
     let s = c .before .before .before .before in
     let e = c .before .before .eliminate in
     let ws = s .args .ws .now in
-    found-not (s .args .n) (length ws) ws (e .ensures .dependent (not-true _ (c .if1 .taken)))
+    not-found (s .args .n) (s .args .n - length ws) (Independent (length ws) ws) (Generated (s .args .n) (length ws) ws) (e .ensures .dependent (not-true _ (c .if1 .taken)))
 
 read-columns-requires : tie.Need-read-columns-requires
 read-columns-requires c κs =
