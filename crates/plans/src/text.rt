@@ -1,9 +1,9 @@
 // The lines that are printed, made in a lent list of bytes: each function adds its text from a place on and says the place after it.
 ghost use mathlib.Core.Path.{_≡_};
 ghost use Prim.Native.Nat.{_+_, _*_, _≤_};
-ghost use lib.ListN.{length, take, drop};
+ghost use lib.ListN.{length, take};
 ghost use Rattle.io.specs.Counts.{Counts};
-ghost use Rattle.plans.specs.Text.{Adds, decimal, next, spaced, headerLine, refused, start, entry, EntryLine};
+ghost use Rattle.plans.specs.Text.{Adds, decimal, next, columnsText, countsText, headerLine, refused, start, entry, EntryLine};
 ghost use Rattle.plans.specs.Listed.{Listable};
 use regular::Design;
 
@@ -45,7 +45,7 @@ fn add_next(x: u64, at: usize, out: &mut [u8]) -> usize
 // The columns of n factors, each after a space.
 fn add_columns(n: usize, columns: [u8; 16], at: usize, out: &mut [u8]) -> usize
     requires { ⌜ (n ≤ 16) × (at + 21 * n ≤ length (now out)) ⌝ }
-    ensures { λ r. ⌜ Adds (now (out .entry)) (now (out .exit)) at (spaced (take n columns)) r × (r ≤ at + 21 * n) ⌝ }
+    ensures { λ r. ⌜ Adds (now (out .entry)) (now (out .exit)) at (columnsText n columns) r × (r ≤ at + 21 * n) ⌝ }
 {
     let mut f: usize = 0;
     let mut end = at;
@@ -60,7 +60,7 @@ fn add_columns(n: usize, columns: [u8; 16], at: usize, out: &mut [u8]) -> usize
 // The counts of the words of three letters to n, each after a space.
 fn add_counts(n: usize, counts: [u16; 16], at: usize, out: &mut [u8]) -> usize
     requires { ⌜ (n ≤ 16) × (at + 21 * n ≤ length (now out)) ⌝ }
-    ensures { λ r. ⌜ Adds (now (out .entry)) (now (out .exit)) at (spaced (drop 2 (take n counts))) r × (r ≤ at + 21 * n) ⌝ }
+    ensures { λ r. ⌜ Adds (now (out .entry)) (now (out .exit)) at (countsText n counts) r × (r ≤ at + 21 * n) ⌝ }
 {
     let mut l: usize = 2;
     let mut end = at;
