@@ -11,8 +11,8 @@ use native.Mathlib.Numerals.{add-one}
 use borrow.Author.Tests.{lt-ltb, le-ltb}
 use Rattle.io.specs.Counts.{Counts}
 use Rattle.io.specs.Digits.{digits, glyph, Fewest}
-use lib.ListN.{length, getD, take, set, length-set, length-append}
-use lib.Seq.{take-suc, take-suc-set, take-length}
+use lib.ListN.{length, getD, take, drop, set, length-set, length-append}
+use lib.Seq.{take-suc, take-suc-set, take-length, drop-drop, drop-set-lt}
 use Rattle.regular.specs.Book.{each}
 use Rattle.regular.specs.Pattern.{ofLength}
 use Rattle.plans.proofs.Counting.{counts}
@@ -20,7 +20,13 @@ use Rattle.plans.specs.Text.{Adds, digitsUpTo, next, columnsText, counts
 
 -- nothing was added yet
 pub adds-none : (xs : List ℕ) (at : ℕ) → Adds xs xs at [] at
-adds-none xs at = record { text = sym (append-nil (take at xs)); place = omega arith; size = refl }
+adds-none xs at = record { text = sym (append-nil (take at xs)); place = omega arith; rest = refl; size = refl }
+
+-- what is untouched from a place on is so from a later one
+later : (xs ys : List ℕ) (i j : ℕ) → i ≤ j → drop i ys ≡ drop i xs → drop j ys ≡ drop j xs
+later xs ys i j h e =
+    let k : i + (j - i) ≡ j = omega arith in
+    subst (λ (p : ℕ). drop p ys ≡ drop p xs) k (sym (drop-drop (j - i) i ys) ∙ ap (drop (j - i)) e ∙ drop-drop (j - i) i xs)
 
 -- one byte more
 adds-byte : (xs ys : List ℕ) (at : ℕ) (t : List ℕ) (end b : ℕ) → Adds xs ys at t end → end < length ys → Adds xs (set ys end b) at (t ++ (b ∷ [])) (end + 1)
@@ -30,6 +36,7 @@ adds-byte xs ys at t end b a h =
           ap (λ (k : ℕ). take k (set ys end b)) (add-one end) ∙ take-suc-set ys end b h ∙ ap (λ (l : List ℕ). l ++ (b ∷ [])) (a .text)
           ∙ append-assoc (take at xs) t (b ∷ []);
       place = omega (arith, a .place, length-append t (b ∷ []));
+      rest = drop-set-lt (end + 1) ys end b (omega arith) ∙ later xs ys end (end + 1) (omega arith) (a .rest);
       size = length-set ys end b ∙ a .size;
     }
 
@@ -39,6 +46,7 @@ adds-more {xs} {ys} {zs} {at} {mid} {end} {t} {u} a b =
     record {
       text = b .text ∙ ap (λ (l : List ℕ). l ++ u) (a .text) ∙ append-assoc (take at xs) t u;
       place = omega (arith, a .place, b .place, length-append t u);
+      rest = b .rest ∙ later xs ys mid end (omega (arith, b .place)) (a .rest);
       size = b .size ∙ a .size;
     }
 
@@ -109,8 +117,8 @@ few-digits x k h f =
     absurd (omega (arith, h, m, o)))
 
 -- the first line of a list
-pub line-of : {xs ys : List ℕ} {t : List ℕ} {k : ℕ} → Adds xs ys 0 t k → k ≤ length xs → Counts k ys × (take k ys ≡ t)
-line-of {xs} {ys} {t} {k} a h = (counts k ys (omega (arith, a .size, h)), a .text)
+pub line-of : {xs ys : List ℕ} {t : List ℕ} {k : ℕ} → Adds xs ys 0 t k → k ≤ length xs → Counts k ys × Adds xs ys 0 t k
+line-of {xs} {ys} {t} {k} a h = (counts k ys (omega (arith, a .size, h)), a)
 
 -- numbers, each after a space: none yet, one column more, the count of one length more
 pub columns-none : (xs : List ℕ) (at : ℕ) (columns : List ℕ) → Adds xs xs at (columnsText 0 columns) at

@@ -4,7 +4,7 @@ use mathlib.Core.Bool.{cond}
 use mathlib.Core.List.{List, [], _∷_, _++_}
 use Prim.Native.Nat.{ℕ, zero, suc, _+_, _-_, _/_, _%_}
 use lib.Dec.{ltb}
-use lib.ListN.{length, getD, take}
+use lib.ListN.{length, getD, take, drop}
 use Rattle.regular.specs.Columns.{planOf}
 use Rattle.regular.specs.Pattern.{Pattern, Resolution, ofLength}
 use Rattle.regular.specs.Book.{each}
@@ -66,16 +66,17 @@ entry n place resolution columns pattern = start n place resolution columns ++ p
 abbrev pub refused : ℕ → List ℕ
 refused number = refusedWord ++ next number ++ newline
 
--- the text t was added to the list `before` at place `at`, and ends at place `end` of `after`
+-- the text t was added to the list `before` at place `at`, and ends at place `end` of `after`; the bytes past it are untouched
 pub record Adds (before after : List ℕ) (at : ℕ) (t : List ℕ) (end : ℕ) : Type 0 where
   pub text : take end after ≡ take at before ++ t
   pub place : end ≡ at + length t
+  pub rest : drop end after ≡ drop end before
   pub size : length after ≡ length before
 
--- the line of the design d, the place-th entry: its resolution and pattern are those of its plan
-pub record EntryLine (n g place : ℕ) (d : Design) (t : List ℕ) : Type 0 where
+-- the line of the design d, the place-th entry, was put at the start of a list: its resolution and pattern are those of its plan
+pub record EntryLine (n g place : ℕ) (d : Design) (before after : List ℕ) (end : ℕ) : Type 0 where
   pub resolution : ℕ
   pub pattern : List ℕ
   pub is-resolution : Resolution n (planOf n (n - g) (d .columns)) resolution
   pub is-pattern : Pattern n (planOf n (n - g) (d .columns)) pattern
-  pub text : t ≡ entry n place resolution (d .columns) pattern
+  pub text : Adds before after 0 (entry n place resolution (d .columns) pattern) end

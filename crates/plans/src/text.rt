@@ -1,7 +1,6 @@
 // The lines that are printed, made in a lent list of bytes: each function adds its text from a place on and says the place after it.
-ghost use mathlib.Core.Path.{_≡_};
 ghost use Prim.Native.Nat.{_+_, _*_, _≤_};
-ghost use lib.ListN.{length, take};
+ghost use lib.ListN.{length};
 ghost use Rattle.io.specs.Counts.{Counts};
 ghost use Rattle.plans.specs.Text.{Adds, decimal, next, columnsText, countsText, headerLine, refused, start, entry, EntryLine};
 ghost use Rattle.plans.specs.Listed.{Listable};
@@ -94,7 +93,7 @@ fn add_entry(
     out: &mut [u8],
 ) -> usize
     requires { ⌜ (n ≤ 16) × (734 ≤ length (now out)) ⌝ }
-    ensures { λ r. ⌜ Counts r (now (out .exit)) × (take r (now (out .exit)) ≡ entry n place resolution columns counts) ⌝ }
+    ensures { λ r. ⌜ Counts r (now (out .exit)) × Adds (now (out .entry)) (now (out .exit)) 0 (entry n place resolution columns counts) r ⌝ }
 {
     let a = add_start(n, place, resolution, columns, out);
     let b = add_text(b" pattern", a, out);
@@ -105,7 +104,7 @@ fn add_entry(
 // The line of an entry: its place, resolution, columns and counts. Says how many bytes.
 pub fn entry_line(n: usize, g: usize, place: usize, d: Design, out: &mut [u8]) -> usize
     requires { ⌜ Listable n g d × (734 ≤ length (now out)) ⌝ }
-    ensures { λ r. ⌜ Counts r (now (out .exit)) × EntryLine n g place d (take r (now (out .exit))) ⌝ }
+    ensures { λ r. ⌜ Counts r (now (out .exit)) × EntryLine n g place d (now (out .entry)) (now (out .exit)) r ⌝ }
 {
     let answer = measures::resolution_of_design(n, g, d);
     let mut counts = [0u16; 16];
@@ -118,7 +117,7 @@ pub fn entry_line(n: usize, g: usize, place: usize, d: Design, out: &mut [u8]) -
 // The header: the size and the entry count.
 pub fn header_line(n: usize, g: usize, r: usize, count: usize, out: &mut [u8]) -> usize
     requires { ⌜ 734 ≤ length (now out) ⌝ }
-    ensures { λ res. ⌜ Counts res (now (out .exit)) × (take res (now (out .exit)) ≡ headerLine n g r count) ⌝ }
+    ensures { λ res. ⌜ Counts res (now (out .exit)) × Adds (now (out .entry)) (now (out .exit)) 0 (headerLine n g r count) res ⌝ }
 {
     let a = add_text(b"catalogue", 0, out);
     let b = add_next(n as u64, a, out);
@@ -132,7 +131,7 @@ pub fn header_line(n: usize, g: usize, r: usize, count: usize, out: &mut [u8]) -
 // The line of a refusal.
 pub fn refused_line(number: u8, out: &mut [u8]) -> usize
     requires { ⌜ 734 ≤ length (now out) ⌝ }
-    ensures { λ r. ⌜ Counts r (now (out .exit)) × (take r (now (out .exit)) ≡ refused number) ⌝ }
+    ensures { λ r. ⌜ Counts r (now (out .exit)) × Adds (now (out .entry)) (now (out .exit)) 0 (refused number) r ⌝ }
 {
     let a = add_text(b"refused", 0, out);
     let b = add_next(number as u64, a, out);
