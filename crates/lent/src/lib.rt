@@ -43,7 +43,7 @@ pub fn lend_numbers(numbers: &[u16], out: &mut [u16]) -> u8
 }
 
 // The bytes of `bytes` as a result: 8 if `out` has too few places, else 0 with `out` filled.
-pub fn lend_bytes(bytes: &[u8], out: &mut [u8]) -> u8
+fn lend_bytes(bytes: &[u8], out: &mut [u8]) -> u8
     ensures { λ r. ⌜ Lends 0 (length (now (bytes .entry))) (Starts (now (bytes .entry))) (now (out .entry)) (now (out .exit)) r ⌝ }
 {
     if out.len() < bytes.len() {

@@ -31,7 +31,7 @@ fn distances(n: usize, g: usize, columns: [u8; 16]) -> [u16; 17]
 {
     let m = n - g;
     let runs = column_forms::run_table(n, m, columns);
-    patterns::distances_of(n, power(m), runs)
+    patterns::distances_of(power(m), runs)
 }
 
 // The pattern of an admitted plan, in a lent list.

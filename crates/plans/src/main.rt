@@ -1,13 +1,14 @@
 // Prints the catalogue of the size that the first line of standard input gives, and reads nothing past that line.
 ghost use mathlib.Core.Path.{_≡_};
 ghost use mathlib.Core.Bool.{false};
-ghost use Prim.Native.Nat.{_≤_, _<_};
+ghost use Prim.Native.Nat.{_≤_};
 ghost use lib.ListN.{replicate};
 ghost use Rattle.io.specs.Counts.{Counts};
 ghost use Rattle.regular.specs.Designs.{blank};
 ghost use Rattle.regular.specs.Catalogues.{ListsDesigns};
 ghost use Rattle.plans.specs.Lines.{DigitIs, SpaceIs, Part, Parsed};
 ghost use Rattle.plans.specs.Listed.{Listable, AllListable};
+use bits::wide_byte;
 use libc::STDIN_FILENO;
 use libc::STDOUT_FILENO;
 use regular::CatalogueAnswer;
@@ -76,12 +77,6 @@ fn read_line(line: &mut [u8]) -> usize
     n
 }
 
-fn wide(x: u8) -> usize
-    ensures { λ r. ⌜ (r ≡ x) × (r < 256) ⌝ }
-{
-    x as usize
-}
-
 // The digit at place p, 10 if none stands there.
 fn digit(line: &[u8], p: usize) -> usize
     ensures { λ r. ⌜ DigitIs (now (line .entry)) p r ⌝ }
@@ -89,7 +84,7 @@ fn digit(line: &[u8], p: usize) -> usize
     if line.len() <= p {
         return 10;
     }
-    let x = wide(line[p]);
+    let x = wide_byte(line[p]);
     if x < 48 {
         return 10;
     }
