@@ -78,7 +78,8 @@ pub fn pattern_of(n: usize, g: usize, words: [u16; 16]) -> [u16; 16]
     from_one(n, counts)
 }
 
-// The resolution from the pattern: the first length with a word, 0 if there is none. Called by the calls on resolution.
+// The resolution from the pattern: the first length with a word, 0 if there is none. Called by the calls on resolution and
+// the refusal of several plans.
 pub fn resolution_of(n: usize, pattern: [u16; 16]) -> u8
     requires { ⌜ n ≤ 16 ⌝ }
     ensures { λ r. ⌜ r ≡ firstLength n pattern ⌝ }

@@ -1,4 +1,5 @@
-// The lines that are printed, made in a lent list of bytes: each function adds its text from a place on and says the place after it.
+// The lines that are printed, made in a lent list of bytes: each function adds its text from a place on and says the place after it. The lines are
+// public for main.rt, which lends 1,024 bytes.
 ghost use Prim.Native.Nat.{_+_, _*_, _≤_};
 ghost use lib.ListN.{length};
 ghost use Rattle.io.specs.Counts.{Counts};
