@@ -96,7 +96,7 @@ struct Stop {
 }
 
 // What a turn of the loop over records finds: the next place, or the answer.
-struct Listed {
+struct NextStop {
     found: bool,
     stop: Stop,
     answer: CatalogueAnswer,
@@ -118,7 +118,7 @@ fn begin() -> Stop
 }
 
 // The entry after the place c, the i-th, or the first if i is 0, where a list of len has a place for it.
-fn step(n: usize, g: usize, r: usize, i: usize, len: usize, c: Stop) -> Listed
+fn step(n: usize, g: usize, r: usize, i: usize, len: usize, c: Stop) -> NextStop
     requires { ⌜ Going n g r i (c .design .columns) (c .trail) ⌝ }
     ensures { λ res. ⌜ Stepped n g r i len c res ⌝ }
 {
@@ -126,7 +126,7 @@ fn step(n: usize, g: usize, r: usize, i: usize, len: usize, c: Stop) -> Listed
     let trail = c.trail;
     let t = advance(n, g, r, i, i < len, columns, trail);
     if !t.found {
-        return Listed {
+        return NextStop {
             found: false,
             stop: c,
             answer: CatalogueAnswer {
@@ -137,7 +137,7 @@ fn step(n: usize, g: usize, r: usize, i: usize, len: usize, c: Stop) -> Listed
     }
     let d = t.columns;
     let onward = t.trail;
-    Listed {
+    NextStop {
         found: true,
         stop: Stop {
             design: Design {

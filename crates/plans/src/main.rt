@@ -28,7 +28,7 @@ struct Numeral {
 }
 
 // What a line says: a size, or none.
-struct Size {
+struct LineSize {
     ok: bool,
     n: usize,
     g: usize,
@@ -130,10 +130,10 @@ fn number(line: &[u8], p: usize) -> Numeral
 }
 
 // No size.
-fn none() -> Size
+fn none() -> LineSize
     ensures { λ r. ⌜ r .ok ≡ false ⌝ }
 {
-    Size {
+    LineSize {
         ok: false,
         n: 0,
         g: 0,
@@ -142,7 +142,7 @@ fn none() -> Size
 }
 
 // The size that a line gives: three numbers of one or two digits, a space between.
-fn parse(line: &[u8]) -> Size
+fn parse(line: &[u8]) -> LineSize
     ensures { λ r. ⌜ Parsed (now (line .entry)) (r .ok) (r .n) (r .g) (r .r) ⌝ }
 {
     let a = number(line, 0);
@@ -169,7 +169,7 @@ fn parse(line: &[u8]) -> Size
     if k != line.len() {
         return none();
     }
-    Size {
+    LineSize {
         ok: true,
         n: a.value,
         g: b.value,
