@@ -19,8 +19,9 @@
  * any pointer, NULL too. Lists that a call reads stay as they are, and may be one and the same.
  *
  * LENT LISTS. A result is written to a list that the caller lends, with at least as many places as are named at the call. An accepted call
- * fills these places, from the first, and leaves any places past them untouched. A refused call leaves every lent list untouched
- * (PLAN_REFUSED_ROOM of a catalogue apart). A lent list must not overlap another list of the call.
+ * fills these places, from the first, and leaves any places past them untouched; two plans that are different have no witness, whose list stays
+ * untouched. A refused call leaves every lent list untouched (PLAN_REFUSED_ROOM of a catalogue apart). A lent list must not overlap another list
+ * of the call.
  *
  * ANSWERS. PLAN_ACCEPTED, or else the lowest number below that applies, over all arguments. The calls that answer more say so. */
 #ifndef PLANNER_H
@@ -31,8 +32,8 @@
 
 #define PLANNER_VERSION "0.1.0"
 
-/* The most factors, basic factors and runs that a plan may have: enough places for any list that a call fills but a catalogue, and, with one
- * more than PLAN_FACTORS, for distance counts. */
+/* The most factors, basic factors and runs that a plan may have: enough places for any list that a call on one or two plans fills, with one
+ * more than PLAN_FACTORS for distance counts. Catalogues, books and several plans need more. */
 #define PLAN_FACTORS 16
 #define PLAN_BASIC_FACTORS 7
 #define PLAN_RUNS 128
@@ -45,7 +46,7 @@
 #define PLAN_REFUSED_GENERATORS 2
 /* R is outside 3 to 16. Only plan_catalogue and plan_write_book. */
 #define PLAN_REFUSED_RESOLUTION 3
-/* A list has not G words, N columns (several plans: a multiple of N) or 2^M runs. */
+/* A list has not G words, N columns (several plans: a multiple of N) or 2^M runs; or a book is to have more than 65,535 plans. */
 #define PLAN_REFUSED_COUNT 4
 /* A column above 2^M - 1, or a bit past factor N in a word or a run. */
 #define PLAN_REFUSED_RANGE 5
@@ -67,7 +68,7 @@ extern "C" {
  * takes the next of 1, 2, 4 and so on; the others follow. N places. */
 uint8_t plan_columns_of_words(size_t n, size_t g, const uint16_t *words, size_t word_count, uint8_t *columns, size_t places);
 
-/* The standard columns of the run table's plan. N places. */
+/* The standard columns of the table with its first run switched to all high, so that their runs are the table's up to one mask. N places. */
 uint8_t plan_columns_of_runs(size_t n, size_t g, const uint16_t *runs, size_t run_count, uint8_t *columns, size_t places);
 
 /* The reduced words of the columns' plan: by rising last letter, and no other word's last letter stands in a word. G places. */
@@ -181,7 +182,7 @@ uint8_t plan_smallest_of_plans(size_t n, size_t g, const uint8_t *plans, size_t 
  *   PLAN_REFUSED_FACTORS,
  *   PLAN_REFUSED_GENERATORS,
  *   PLAN_REFUSED_RESOLUTION  0; the list is untouched
- * The largest catalogue, N 16, G 9, R 3, has 745,413 entries and takes some ten seconds; most take milliseconds. */
+ * The largest catalogue, N 16, G 9, R 3, has 745,413 entries and takes some six seconds; most take milliseconds. */
 struct plan_entries {
     uint8_t number;
     size_t count;

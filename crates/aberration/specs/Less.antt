@@ -1,9 +1,10 @@
 -- Less aberration by the patterns, whichever lists hold them, and which list is handed back.
 use mathlib.Core.Path.{_≡_, refl, subst, _∙_}
 use mathlib.Core.List.{List}
-use Prim.Native.Nat.{ℕ, _-_, _≤_}
+use Prim.Native.Nat.{ℕ, _-_, _≤_, _<_}
 use native.Mathlib.Omega.{arith}
 use lib.ListN.{take}
+use denote.Ref.{RefT}
 use Rattle.regular.specs.Runs.{Runs, Agree}
 use Rattle.regular.specs.Pattern.{Pattern, Better, LessAberration}
 use Rattle.regular.specs.Columns.{planOf}
@@ -63,23 +64,38 @@ module _ {F H : ℕ → Type 0} {n g : ℕ} {s t : Runs} {x y : ℕ} {a b : List
   pub chooses-first : r ≡ 0 → (LessAberration n (n - g) (planOf n (n - g) b) (planOf n (n - g) a) → ⊥) → Chooses (either F H) (LessAberration n (n - g) t s) 1
   chooses-first e none = Chooses.first (subst (Lowest (either F H)) e low) (λ less. none (onto e less))
 
+-- what is accepted is not refused
+accepted : {fault : ℕ → Type 0} → Lowest fault 0 → (k : ℕ) → 0 < k → Lowest fault k → ⊥
+accepted {fault} l k h w = omega (arith, lowest-unique fault k 0 w l)
+
 -- the list that is handed back, by the choice r
-module _ {fault : ℕ → Type 0} {B : Type 0} {A : Type 0} {first second : A} {firstNow now : List ℕ} where
-  pub hands-start : {r : ℕ} {h : A} → Chooses fault B r → r ≡ 0 → now ≡ take 0 firstNow → HandsBack fault B first second h firstNow now
-  hands-start (Chooses.refused k p l) e w = record {
+module _ {fault : ℕ → Type 0} {B : Type 0} {first second : RefT (List ℕ)} where
+  pub hands-start : {r : ℕ} {h : RefT (List ℕ)} → Chooses fault B r → r ≡ 0 → h .now ≡ take 0 (first .now) → h .ptr ≡ first .ptr → HandsBack fault B first second h
+  hands-start (Chooses.refused k p l) e w v = record {
     better = λ z _. absurd (omega (arith, lowest-unique fault k 0 l z));
     otherwise = λ z _. absurd (omega (arith, lowest-unique fault k 0 l z));
     refused = λ _ _ _. w;
+    start = λ _ _ _. v;
   }
-  hands-start (Chooses.first l none) e w = absurd (omega arith)
-  hands-start (Chooses.second l less) e w = absurd (omega arith)
+  hands-start (Chooses.first l none) e w v = absurd (omega arith)
+  hands-start (Chooses.second l less) e w v = absurd (omega arith)
 
-  pub hands-second : {r : ℕ} → Chooses fault B r → r ≡ 2 → HandsBack fault B first second second firstNow now
+  pub hands-second : {r : ℕ} → Chooses fault B r → r ≡ 2 → HandsBack fault B first second second
   hands-second (Chooses.refused k p l) e = absurd (omega arith)
   hands-second (Chooses.first l none) e = absurd (omega arith)
-  hands-second (Chooses.second l less) e = record { better = λ _ _. refl; otherwise = λ _ none. absurd (none less); refused = λ k h w. absurd (omega (arith, lowest-unique fault k 0 w l)) }
+  hands-second (Chooses.second l less) e = record {
+    better = λ _ _. refl;
+    otherwise = λ _ none. absurd (none less);
+    refused = λ k h w. absurd (accepted l k h w);
+    start = λ k h w. absurd (accepted l k h w);
+  }
 
-  pub hands-first : {r : ℕ} → Chooses fault B r → (r ≡ 0 → ⊥) → (r ≡ 2 → ⊥) → HandsBack fault B first second first firstNow now
+  pub hands-first : {r : ℕ} → Chooses fault B r → (r ≡ 0 → ⊥) → (r ≡ 2 → ⊥) → HandsBack fault B first second first
   hands-first (Chooses.refused k p l) e w = absurd (e refl)
-  hands-first (Chooses.first l none) e w = record { better = λ _ less. absurd (none less); otherwise = λ _ _. refl; refused = λ k h w. absurd (omega (arith, lowest-unique fault k 0 w l)) }
+  hands-first (Chooses.first l none) e w = record {
+    better = λ _ less. absurd (none less);
+    otherwise = λ _ _. refl;
+    refused = λ k h w. absurd (accepted l k h w);
+    start = λ k h w. absurd (accepted l k h w);
+  }
   hands-first (Chooses.second l less) e w = absurd (w refl)

@@ -52,7 +52,7 @@ pub fn choice(n: usize, g: usize, first: &[u16], second: &[u16]) -> u8
 pub fn less_aberration<'a>(n: usize, g: usize, first: &'a [u16], second: &'a [u16]) -> &'a [u16]
     ensures { λ r. ⌜ HandsBack (either (wordsFaults n g (now (first .entry))) (wordsFaults n g (now (second .entry))))
         (LessAberration n (n - g) (Generated n g (now (second .entry))) (Generated n g (now (first .entry))))
-        (first .entry) (second .entry) r (now (first .entry)) (now r) ⌝ }
+        (first .entry) (second .entry) r ⌝ }
 {
     let which = choice(n, g, first, second);
     if which == 0 {

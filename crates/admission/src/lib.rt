@@ -202,7 +202,7 @@ pub fn admit_design(n: usize, g: usize, design: Design) -> Admitted
     admit_array(n, m, columns)
 }
 
-// The bytes of a list as an array, zeros after them. Public for the call that lists runs.
+// The bytes of a list as an array, zeros after them. Public for the call that lists runs, the book and the check of a witness.
 pub fn array_of(list: &[u8]) -> [u8; 16]
     requires { ⌜ length (now list) ≤ 16 ⌝ }
     ensures { λ r. ⌜ ((f : ℕ) → getD r f 0 ≡ getD (now (list .entry)) f 0) ⌝ }

@@ -1,4 +1,4 @@
-// Digits of runs, words and columns. Public for the crates of plans, which read and combine levels by these alone.
+// Digits of runs, words and columns, and bytes and numbers as indices. Public for the crates of plans and the program.
 ghost use mathlib.Core.Path.{_≡_};
 ghost use Prim.Native.Nat.{_^_, _<_, _≤_};
 ghost use lib.Count.{ones};
@@ -11,7 +11,7 @@ pub fn parity(j: u16, c: u16) -> u16
     (u16::count_ones(j & c) & 1) as u16
 }
 
-// Bit f of x.
+// Bit f of x. Called by the forms of a plan, the renaming of runs and the check of a witness.
 pub fn level(x: u16, f: usize) -> u16
     requires { ⌜ f < 16 ⌝ }
     ensures { λ r. ⌜ (r ≡ bit f x) × (r < 2) ⌝ }
@@ -33,14 +33,14 @@ pub fn wide(x: u16) -> usize
     x as usize
 }
 
-// A column as an index.
-pub fn wide_byte(column: u8) -> usize
-    ensures { λ r. ⌜ (r ≡ column) × (r < 256) ⌝ }
+// A column or another byte as an index.
+pub fn wide_byte(x: u8) -> usize
+    ensures { λ r. ⌜ (r ≡ x) × (r < 256) ⌝ }
 {
-    column as usize
+    x as usize
 }
 
-// 2^k.
+// 2^k. Called by the admission of plans, their measures and forms, the searches and the check of a witness.
 pub fn power(k: usize) -> usize
     requires { ⌜ k ≤ 16 ⌝ }
     ensures { λ r. ⌜ (r ≡ 2 ^ k) × (r ≤ 65536) ⌝ }

@@ -27,6 +27,14 @@ over-one at y [] h = absurd (omega arith)
 over-one zero y (x ∷ v) h = refl
 over-one (suc at) y (x ∷ v) h = ap (λ (l : List ℕ). x ∷ l) (over-one at y v (omega arith))
 
+-- in three parts
+pub over-parts : (at : ℕ) (zs v : List ℕ) → at ≤ length v → over at zs v ≡ (take at v ++ zs) ++ drop (at + length zs) v
+unfolding over
+over-parts zero zs v h = ap (λ (k : ℕ). zs ++ drop k v) (sym (zero-add (length zs)))
+over-parts (suc at) zs [] h = absurd (omega arith)
+over-parts (suc at) zs (x ∷ v) h =
+    ap (λ (l : List ℕ). x ∷ l) (over-parts at zs v (omega arith)) ∙ ap (λ (k : ℕ). (x ∷ take at v ++ zs) ++ drop k (x ∷ v)) (sym (suc-add at (length zs)))
+
 -- one after the other
 after-start : (zs ys v : List ℕ) → over (length zs) ys (zs ++ drop (length zs) v) ≡ (zs ++ ys) ++ drop (length (zs ++ ys)) v
 unfolding over

@@ -1,13 +1,14 @@
--- Laws of what each part of the writer puts: a number, the header, one column more, one count more, an entry; and the lengths that fit.
-use Prim.Native.Nat.{ℕ, _+_, _*_, _-_, _/_, _≤_, _<_}
+-- Laws of what each part of the writer puts: a number, the header, the columns, one count more, an entry; and the lengths that fit.
+use Prim.Native.Nat.{ℕ, zero, suc, _+_, _*_, _-_, _/_, _≤_, _<_}
 use mathlib.Core.Path.{_≡_, refl, sym, ap, _∙_}
 use mathlib.Core.List.{List, [], _∷_, _++_}
 use native.Mathlib.Nat.{div-zero, mul-le-mul-right}
 use native.Mathlib.Omega.{arith}
-use lib.ListN.{length, getD, set, length-set}
+use lib.ListN.{length, getD, take, drop, set, length-set}
+use lib.Seq.{paste, length-paste, take-suc}
 use Rattle.regular.specs.Pattern.{ofLength}
 use Rattle.regular.specs.Book.{lowFirst, each, header, columnsRecord, patternRecord, bookLength}
-use Rattle.book.specs.Over.{over, over-none, over-one, over-length}
+use Rattle.book.specs.Over.{over, over-none, over-one, over-parts, over-length}
 use Rattle.book.specs.Writing.{entryLength}
 use Rattle.book.specs.WritingLaws.{each-more, each-none, columns-bytes, counts-bytes, put-more, put-then}
 
@@ -33,14 +34,15 @@ header-size n g r v =
 abbrev columnAt : List ℕ → ℕ → List ℕ
 columnAt c f = getD c f 0 ∷ []
 
-pub columns-none : (c : List ℕ) (at : ℕ) (v : List ℕ) → v ≡ over at (each (λ f. getD c f 0 ∷ []) 0) v
-columns-none c at v = sym (ap (λ (l : List ℕ). over at l v) (each-none (columnAt c)) ∙ over-none at v)
+columns-taken : (c : List ℕ) (n : ℕ) → n ≤ length c → take n c ≡ each (columnAt c) n
+unfolding each
+columns-taken c zero h = refl
+columns-taken c (suc n) h = take-suc c n 0 (omega arith) ∙ ap (λ (l : List ℕ). l ++ columnAt c n) (columns-taken c n (omega arith))
 
-pub columns-more : (c : List ℕ) (at f : ℕ) (v w : List ℕ) → at + f < length v → w ≡ over at (each (λ f. getD c f 0 ∷ []) f) v
-    → set w (at + f) (getD c f 0) ≡ over at (each (λ f. getD c f 0 ∷ []) (f + 1)) v
-columns-more c at f v w h e =
-    ap (λ (l : List ℕ). set l (at + f) (getD c f 0)) e ∙ put-more at f (getD c f 0) (each (columnAt c) f) v (columns-bytes c f) h
-    ∙ ap (λ (l : List ℕ). over at l v) (sym (each-more (columnAt c) f))
+columns-put : (n : ℕ) (c : List ℕ) (at : ℕ) (v w : List ℕ) → at + n ≤ length v → n ≤ length c → w ≡ paste v at c n → w ≡ over at (each (λ f. getD c f 0 ∷ []) n) v
+columns-put n c at v w h many e =
+    e ∙ ap (λ (l : List ℕ). (take at v ++ l) ++ drop (at + n) v) (columns-taken c n many)
+    ∙ ap (λ (k : ℕ). (take at v ++ each (columnAt c) n) ++ drop (at + k) v) (sym (columns-bytes c n)) ∙ sym (over-parts at (each (columnAt c) n) v (omega arith))
 
 -- the counts, that of length i + 1 after i - 2 others
 abbrev countAt : List ℕ → ℕ → List ℕ
@@ -85,18 +87,17 @@ counts-turn {n} {p} {at} {v} {w} {w'} {i} {to} room h x e =
     }
 
 -- the length stays after the first record of an entry
-pub entry-size : (n at : ℕ) (c v w : List ℕ) → at + entryLength n ≤ length v → w ≡ over (at + 1) (each (λ f. getD c f 0 ∷ []) n) (set v at (32 + n)) → length w ≡ length v
-entry-size n at c v w h e =
-    ap length e ∙ over-length (at + 1) (each (columnAt c) n) (set v at (32 + n)) (omega (arith, columns-bytes c n, length-set v at (32 + n))) ∙ length-set v at (32 + n)
+pub entry-size : (n at : ℕ) (c v w : List ℕ) → at + entryLength n ≤ length v → n ≤ length c → w ≡ paste (set v at (32 + n)) (at + 1) c n → length w ≡ length v
+entry-size n at c v w h many e = ap length e ∙ length-paste (set v at (32 + n)) (at + 1) c n (omega (arith, length-set v at (32 + n))) many ∙ length-set v at (32 + n)
 
 -- an entry: its kind, the columns, its second kind, the counts
-pub entry-put : (n at : ℕ) (c p v w u : List ℕ) → at + entryLength n ≤ length v → w ≡ over (at + 1) (each (λ f. getD c f 0 ∷ []) n) (set v at (32 + n))
+pub entry-put : (n at : ℕ) (c p v w u : List ℕ) → at + entryLength n ≤ length v → n ≤ length c → w ≡ paste (set v at (32 + n)) (at + 1) c n
     → u ≡ over (at + 1 + n + 1) (each (λ i. lowFirst (ofLength p (3 + i))) (n - 2)) (set w (at + 1 + n) (64 + n)) → u ≡ over at (columnsRecord n c ++ patternRecord n p) v
-entry-put n at c p v w u h first second =
+entry-put n at c p v w u h many first second =
     let columns = each (columnAt c) n in
     let counts = each (countAt p) (n - 2) in
     let a : w ≡ over at (columnsRecord n c) v =
-    first ∙ ap (over (at + 1) columns) (sym (over-one at (32 + n) v (omega arith))) ∙ put-then at 1 ((32 + n) ∷ []) columns v refl in
+    columns-put n c (at + 1) (set v at (32 + n)) w (omega (arith, length-set v at (32 + n))) many first ∙ ap (over (at + 1) columns) (sym (over-one at (32 + n) v (omega arith))) ∙ put-then at 1 ((32 + n) ∷ []) columns v refl in
     let long : length (columnsRecord n c) ≡ 1 + n = omega (arith, columns-bytes c n) in
     let mid : at + 1 + n ≡ at + (1 + n) = omega arith in
     let end : at + 1 + n + 1 ≡ at + (1 + n) + 1 = omega arith in

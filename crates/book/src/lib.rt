@@ -1,8 +1,8 @@
 // The book of a list of plans, into lent bytes: all is judged first, then the header and entry after entry are written.
 ghost use mathlib.Core.Path.{_≡_};
 ghost use Prim.Native.Nat.{ℕ, _+_, _*_, _-_, _/_, _≤_};
-ghost use mathlib.Core.List.{[], _∷_, _++_};
-ghost use lib.ListN.{length, getD};
+ghost use mathlib.Core.List.{_++_};
+ghost use lib.ListN.{length};
 ghost use Rattle.regular.specs.Columns.{planOf};
 ghost use Rattle.regular.specs.Pattern.{ofLength};
 ghost use Rattle.regular.specs.Refusals.{Lowest, designFaults};
@@ -36,19 +36,6 @@ fn put_header(n: usize, g: usize, r: usize, count: usize, out: &mut [u8])
     put_number(count as u16, 4, out);
 }
 
-// The first n columns.
-fn put_columns(n: usize, columns: [u8; 16], at: usize, out: &mut [u8])
-    requires { ⌜ (n ≤ 16) × (at + n ≤ length (now out)) ⌝ }
-    ensures { λ _. ⌜ now (out .exit) ≡ over at (each (λ f. getD columns f 0 ∷ []) n) (now (out .entry)) ⌝ }
-{
-    let mut f: usize = 0;
-    while f < n {
-        let x = columns[f];
-        out[at + f] = x;
-        f += 1;
-    }
-}
-
 // The counts for lengths 3 to n; and the place after them.
 fn put_counts(n: usize, counts: [u16; 16], at: usize, out: &mut [u8]) -> usize
     requires { ⌜ (n ≤ 16) × (at + 2 * (n - 2) ≤ length (now out)) ⌝ }
@@ -71,7 +58,7 @@ fn put_entry(n: usize, columns: [u8; 16], counts: [u16; 16], at: usize, out: &mu
     ensures { λ res. ⌜ (now (out .exit) ≡ over at (columnsRecord n columns ++ patternRecord n counts) (now (out .entry))) × (res ≡ at + entryLength n) ⌝ }
 {
     out[at] = (32 + n) as u8;
-    put_columns(n, columns, at + 1, out);
+    lent::put_first(n, columns, at + 1, out);
     let next = at + 1 + n;
     out[next] = (64 + n) as u8;
     put_counts(n, counts, next + 1, out)

@@ -1,7 +1,7 @@
 -- Laws of the loop over the bytes. Assumes nothing.
 use mathlib.Core.Path.{_≡_, refl, sym, ap, subst, _∙_}
 use mathlib.Core.Logic.{by-cases}
-use mathlib.Core.List.{List, []}
+use mathlib.Core.List.{List, [], _++_, append-assoc}
 use Prim.Native.Nat.{ℕ, _+_, _*_, _-_, _≤_, _<_}
 use native.Mathlib.Decide.{ℕ-discrete}
 use native.Mathlib.Omega.{arith}
@@ -9,40 +9,31 @@ use native.Mathlib.Nat.{mul-le-mul-right, suc-mul}
 use native.Mathlib.Numerals.{add-one}
 use borrow.Author.Tests.{leb-true, leb-false}
 use lib.Dec.{leb}
-use lib.ListN.{length, getD, drop, set, length-set}
-use lib.Seq.{getD-set-same, getD-set-other, drop-set-lt, drop-drop, getD-drop}
+use lib.ListN.{length, getD, take, drop, List·getD-append}
+use lib.Seq.{paste, length-paste, drop-paste, length-take-le, getD-append-add, getD-take, getD-drop, drop-drop}
 use Rattle.regular.specs.Catalogues.{ListsBytes}
 use Rattle.entries.specs.declared.Trail.{Trail}
 use Rattle.entries.specs.Tracing.{Followed}
-use Rattle.catalogue.specs.Turns.{Goes, Stops, Put, Filling}
+use Rattle.catalogue.specs.Turns.{Goes, Stops, Filling}
 use Rattle.catalogue.proofs.Turns.{with-entry, with-same, with-other, progress-none, progress-more, stopped}
 
 -- one entry's places more
 one-more : (i n : ℕ) → (i + 1) * n ≡ i * n + n
 one-more i n = ap (λ (k : ℕ). k * n) (add-one i) ∙ suc-mul i n
 
--- one column after the other
-pub put-none : (c : List ℕ) (base : ℕ) (v : List ℕ) → Put 0 c base v v
-put-none c base v = record { size = refl; new = λ f h. absurd (omega arith); low = λ j h. refl; rest = refl }
+-- what was put from base on, the first n of c, and what was there before it
+module _ (n : ℕ) (c : List ℕ) (base : ℕ) (v : List ℕ) (room : base + n ≤ length v) (many : n ≤ length c) where
+  put-new : (f : ℕ) → f < n → getD (paste v base c n) (base + f) 0 ≡ getD c f 0
+  put-new f h =
+      let e : length (take base v) ≡ base = length-take-le base v (omega arith) in
+      ap (λ (l : List ℕ). getD l (base + f) 0) (append-assoc (take base v) (take n c) (drop (base + n) v))
+      ∙ ap (λ (k : ℕ). getD (take base v ++ (take n c ++ drop (base + n) v)) (k + f) 0) (sym e) ∙ getD-append-add (take base v) (take n c ++ drop (base + n) v) f 0
+      ∙ List·getD-append (take n c) (drop (base + n) v) 0 f (omega (arith, length-take-le n c many)) ∙ getD-take n c f 0 h
 
-pub put-more : (f : ℕ) (c : List ℕ) (base : ℕ) (v w : List ℕ) → base + f < length v → Put f c base v w → Put (f + 1) c base v (set w (base + f) (getD c f 0))
-put-more f c base v w h p =
-    let x = getD c f 0 in
-    let w' = set w (base + f) x in
-    let z : base + f + 1 ≡ base + (f + 1) = omega arith in
-    record {
-      size = length-set w (base + f) x ∙ p .size;
-      new = λ e l. by-cases (ℕ-discrete e f)
-          (λ q. rw q (getD-set-same w (base + f) x 0 (omega (arith, p .size))))
-          (λ ne. getD-set-other w (base + f) (base + e) x 0 (λ q. omega arith) ∙ p .new e (omega arith));
-      low = λ j l. getD-set-other w (base + f) j x 0 (λ q. omega arith) ∙ p .low j l;
-      rest = drop-set-lt (base + (f + 1)) w (base + f) x (omega arith) ∙ farther w v (p .rest);
-    }
-  where
-    farther : (a b : List ℕ) → drop (base + f) a ≡ drop (base + f) b → drop (base + (f + 1)) a ≡ drop (base + (f + 1)) b
-    farther a b e =
-        let z : base + (f + 1) ≡ base + f + 1 = omega arith in
-        ap (λ (k : ℕ). drop k a) z ∙ sym (drop-drop 1 (base + f) a) ∙ ap (drop 1) e ∙ drop-drop 1 (base + f) b ∙ ap (λ (k : ℕ). drop k b) (sym z)
+  put-low : (j : ℕ) → j < base → getD (paste v base c n) j 0 ≡ getD v j 0
+  put-low j h =
+      ap (λ (l : List ℕ). getD l j 0) (append-assoc (take base v) (take n c) (drop (base + n) v))
+      ∙ List·getD-append (take base v) (take n c ++ drop (base + n) v) 0 j (omega (arith, length-take-le base v (omega arith))) ∙ getD-take base v j 0 h
 
 -- the loop
 pub filling-none : (n g r : ℕ) (v c : List ℕ) (trail : Trail) → Followed 0 [] trail → Filling n g r v v 0 0 c trail
@@ -58,21 +49,23 @@ filling-none n g r v c trail h = record {
 }
 
 module _ (n g r : ℕ) (v w : List ℕ) (i base : ℕ) (c : List ℕ) (trail : Trail) (x : Filling n g r v w i base c trail) (len : ℕ) (e : len ≡ length v) where
-  pub filling-more : (d w' : List ℕ) (next : Trail) → Goes n g r i (leb n (len - base)) c d next → Put n d base w w' → Filling n g r v w' (i + 1) (base + n) d next
-  filling-more d w' onward t p =
+  pub filling-more : (d w' : List ℕ) (next : Trail) → Goes n g r i (leb n (len - base)) c d next → 16 ≡ length d → w' ≡ paste w base d n → Filling n g r v w' (i + 1) (base + n) d next
+  filling-more d w' onward t long p =
       let room = leb-true n (len - base) (t .room) in
+      let fits : base + n ≤ length w = omega (arith, e, x .room, x .size) in
+      let many : n ≤ length d = omega (arith, t .sized .size .most) in
       record {
         all = with-entry (x .all) i d;
         progress = progress-more n g r i (x .all) (leb n (len - base)) c d trail onward (x .progress) t;
         place = omega (arith, x .place, next i);
         some = omega (arith, x .some, t .sized .size .some);
         room = omega (arith, e, x .room);
-        size = p .size ∙ x .size;
+        size = ap length p ∙ length-paste w base d n fits many ∙ x .size;
         entries = λ j h f l. by-cases (ℕ-discrete j i)
-            (λ z. rw z (ap (λ (y : List ℕ). getD y f 0) (with-same (x .all) i d) ∙ sym (p .new f l) ∙ ap (λ (k : ℕ). getD w' (k + f) 0) (x .place) ∙ sym (getD-drop (i * n) w' f 0)))
+            (λ z. rw z (ap (λ (y : List ℕ). getD y f 0) (with-same (x .all) i d) ∙ sym (ap (λ (y : List ℕ). getD y (base + f) 0) p ∙ put-new n d base w fits many f l) ∙ ap (λ (k : ℕ). getD w' (k + f) 0) (x .place) ∙ sym (getD-drop (i * n) w' f 0)))
             (λ ne. ap (λ (y : List ℕ). getD y f 0) (with-other (x .all) i d j ne) ∙ x .entries j (omega arith) f l ∙ getD-drop (j * n) w f 0
-            ∙ sym (p .low (j * n + f) (before j f (omega arith) l)) ∙ sym (getD-drop (j * n) w' f 0));
-        rest = p .rest ∙ sym (drop-drop n base w) ∙ ap (drop n) (x .rest) ∙ drop-drop n base v;
+            ∙ sym (ap (λ (y : List ℕ). getD y (j * n + f) 0) p ∙ put-low n d base w fits many (j * n + f) (before j f (omega arith) l)) ∙ sym (getD-drop (j * n) w' f 0));
+        rest = ap (drop (base + n)) p ∙ drop-paste w base d n (omega arith) many ∙ sym (drop-drop n base w) ∙ ap (drop n) (x .rest) ∙ drop-drop n base v;
       }
     where
       next : (i : ℕ) → (i + 1) * n ≡ i * n + n

@@ -15,7 +15,7 @@ use Rattle.regular.specs.declared.Design.{Design}
 use Rattle.regular.specs.Smallest.{Entry}
 use Rattle.entries.specs.declared.Trail.{Trail}
 use Rattle.entries.specs.Tracing.{Followed}
-use Rattle.catalogue.specs.declared.Listed.{Listed}
+use Rattle.catalogue.specs.declared.NextStop.{NextStop}
 use Rattle.catalogue.specs.declared.Stop.{Stop}
 use Rattle.regular.specs.Catalogues.{ListsDesigns}
 use Rattle.catalogue.specs.Turns.{Turned}
@@ -62,7 +62,7 @@ listing-none n g r ys c h = record {
   rest = refl;
 }
 
-module _ (n g r : ℕ) (ys zs : List Design) (i : ℕ) (c : Stop) (x : Listing n g r ys zs i c) (s : Listed) (t : Stepped n g r i (length ys) c s) where
+module _ (n g r : ℕ) (ys zs : List Design) (i : ℕ) (c : Stop) (x : Listing n g r ys zs i c) (s : NextStop) (t : Stepped n g r i (length ys) c s) where
   pub listing-room : s .found ≡ true → i < length ys
   listing-room e = ltb-true i (length ys) (t .goes e .room)
 

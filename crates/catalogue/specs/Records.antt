@@ -7,7 +7,7 @@ use lib.Dec.{ltb}
 use lib.ListN.{length, getD, drop}
 use Rattle.regular.specs.Designs.{blank}
 use Rattle.regular.specs.declared.Design.{Design}
-use Rattle.catalogue.specs.declared.Listed.{Listed}
+use Rattle.catalogue.specs.declared.NextStop.{NextStop}
 use Rattle.catalogue.specs.declared.Stop.{Stop}
 use Rattle.catalogue.specs.Turns.{Goes, Stops, Progress}
 
@@ -16,7 +16,7 @@ pub record Head (n m : ℕ) (d : Design) : Type 0 where
   pub factors : d .factors ≡ n
   pub basics : d .basics ≡ m
 
-pub record Stepped (n g r i len : ℕ) (c : Stop) (s : Listed) : Type 0 where
+pub record Stepped (n g r i len : ℕ) (c : Stop) (s : NextStop) : Type 0 where
   pub goes : s .found ≡ true → Goes n g r i (ltb i len) (c .design .columns) (s .stop .design .columns) (s .stop .trail)
   pub head : s .found ≡ true → Head n (n - g) (s .stop .design)
   pub stops : s .found ≡ false → Stops n g r i (ltb i len) (c .design .columns) (s .answer .number)

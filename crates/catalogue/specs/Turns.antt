@@ -2,9 +2,9 @@
 use mathlib.Core.Path.{_≡_}
 use mathlib.Core.Bool.{Bool, true, false}
 use mathlib.Core.List.{List, []}
-use Prim.Native.Nat.{ℕ, _+_, _*_, _-_, _≤_, _<_}
+use Prim.Native.Nat.{ℕ, _*_, _-_, _≤_, _<_}
 use lib.Dec.{ltb}
-use lib.ListN.{length, getD, drop}
+use lib.ListN.{length, drop}
 use Rattle.regular.specs.Refusals.{Lowest, sizeFaults}
 use Rattle.regular.specs.Smallest.{Equal, Entry}
 use Rattle.smallest_laws.specs.Value.{value}
@@ -46,13 +46,6 @@ pub record Progress (n g r i : ℕ) (all : ℕ → List ℕ) (c : List ℕ) (tra
   pub begun : Begun n (n - g) r i all
   pub last : edge n all i ≡ from i n c
   pub going : Going n g r i c trail
-
--- w is v with the first n columns of c at the places from base on
-pub record Put (n : ℕ) (c : List ℕ) (base : ℕ) (v w : List ℕ) : Type 0 where
-  pub size : length w ≡ length v
-  pub new : (f : ℕ) → f < n → getD w (base + f) 0 ≡ getD c f 0
-  pub low : (j : ℕ) → j < base → getD w j 0 ≡ getD v j 0
-  pub rest : drop (base + n) w ≡ drop (base + n) v
 
 -- the loop over the bytes after i turns: the list w, filled up to base, was v
 pub record Filling (n g r : ℕ) (v w : List ℕ) (i base : ℕ) (c : List ℕ) (trail : Trail) : Type 0 where

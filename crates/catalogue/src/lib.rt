@@ -1,17 +1,16 @@
 // The catalogue of N, G and R into a lent list: entry after entry, by the step that finds the next.
 ghost use mathlib.Core.Path.{_≡_};
-ghost use Prim.Native.Nat.{_+_, _≤_};
 ghost use mathlib.Core.List.{[]};
-ghost use lib.ListN.{length};
 ghost use Rattle.regular.specs.Designs.{blank};
 ghost use Rattle.entries.specs.Tracing.{Followed};
-ghost use Rattle.catalogue.specs.Turns.{Going, Turned, Put};
+ghost use Rattle.catalogue.specs.Turns.{Going, Turned};
 ghost use Rattle.catalogue.specs.Records.{Stepped};
 ghost use Rattle.regular.specs.Catalogues.{ListsBytes, ListsDesigns};
 use admission::bounds_number;
 use entries::Trail;
 use entries::next_entry;
 use entries::trailhead;
+use lent::put_first;
 use regular::CatalogueAnswer;
 use regular::Design;
 
@@ -64,19 +63,6 @@ fn advance(n: usize, g: usize, r: usize, i: usize, room: bool, c: [u8; 16], trai
     }
 }
 
-// The first n columns, at the places of the list from base on.
-fn put(n: usize, c: [u8; 16], base: usize, out: &mut [u8])
-    requires { ⌜ (n ≤ 16) × (base + n ≤ length (now out)) ⌝ }
-    ensures { λ _. ⌜ Put n c base (now (out .entry)) (now (out .exit)) ⌝ }
-{
-    let mut f: usize = 0;
-    while f < n {
-        let x = c[f];
-        out[base + f] = x;
-        f += 1;
-    }
-}
-
 // The catalogue into a lent list of bytes, n columns an entry, one after another.
 pub fn list_catalogue(n: usize, g: usize, r: usize, out: &mut [u8]) -> CatalogueAnswer
     ensures { λ res. ⌜ ListsBytes n g r (now (out .entry)) (now (out .exit)) (res .number) (res .count) ⌝ }
@@ -95,7 +81,7 @@ pub fn list_catalogue(n: usize, g: usize, r: usize, out: &mut [u8]) -> Catalogue
             };
         }
         let t = s.columns;
-        put(n, t, base, out);
+        put_first(n, t, base, out);
         c = t;
         trail = s.trail;
         base += n;
@@ -110,7 +96,7 @@ struct Stop {
 }
 
 // What a turn of the loop over records finds: the next place, or the answer.
-struct Listed {
+struct NextStop {
     found: bool,
     stop: Stop,
     answer: CatalogueAnswer,
@@ -132,7 +118,7 @@ fn begin() -> Stop
 }
 
 // The entry after the place c, the i-th, or the first if i is 0, where a list of len has a place for it.
-fn step(n: usize, g: usize, r: usize, i: usize, len: usize, c: Stop) -> Listed
+fn step(n: usize, g: usize, r: usize, i: usize, len: usize, c: Stop) -> NextStop
     requires { ⌜ Going n g r i (c .design .columns) (c .trail) ⌝ }
     ensures { λ res. ⌜ Stepped n g r i len c res ⌝ }
 {
@@ -140,7 +126,7 @@ fn step(n: usize, g: usize, r: usize, i: usize, len: usize, c: Stop) -> Listed
     let trail = c.trail;
     let t = advance(n, g, r, i, i < len, columns, trail);
     if !t.found {
-        return Listed {
+        return NextStop {
             found: false,
             stop: c,
             answer: CatalogueAnswer {
@@ -151,7 +137,7 @@ fn step(n: usize, g: usize, r: usize, i: usize, len: usize, c: Stop) -> Listed
     }
     let d = t.columns;
     let onward = t.trail;
-    Listed {
+    NextStop {
         found: true,
         stop: Stop {
             design: Design {

@@ -1,6 +1,6 @@
 // Words, columns and run tables turned into each other.
 ghost use mathlib.Core.Path.{_≡_};
-ghost use Prim.Native.Nat.{_-_, _^_};
+ghost use Prim.Native.Nat.{_-_, _^_, _≤_};
 ghost use lib.ListN.{getD, replicate};
 ghost use Rattle.regular.specs.Sizes.{Size};
 ghost use Rattle.regular.specs.Runs.{runsOf, switched};
@@ -52,7 +52,7 @@ pub fn columns_of_words(n: usize, g: usize, words: &[u16], out: &mut [u8]) -> u8
     ensures { λ r. ⌜ Fills (either (wordsFaults n g (now (words .entry))) (LentFault n (now (out .entry)))) n
         (StandardColumns n (n - g) (Generated n g (now (words .entry)))) (now (out .entry)) (now (out .exit)) r ⌝ }
 {
-    lend_columns(n, g, admission::admit_words(n, g, words), out)
+    lend_columns(n, admission::admit_words(n, g, words), out)
 }
 
 // Run table to columns: the design record of the plan of a run table, its first run switched to 0.
@@ -68,12 +68,12 @@ pub fn columns_of_runs(n: usize, g: usize, runs: &[u16], out: &mut [u8]) -> u8
     ensures { λ r. ⌜ Fills (either (runsFaults n g (now (runs .entry))) (LentFault n (now (out .entry)))) n
         (StandardColumns n (n - g) (switched (getD (now (runs .entry)) 0 0) (runsOf (now (runs .entry))))) (now (out .entry)) (now (out .exit)) r ⌝ }
 {
-    lend_columns(n, g, admission::admit_runs(n, g, runs), out)
+    lend_columns(n, admission::admit_runs(n, g, runs), out)
 }
 
 // The standard columns of an admitted plan, in a lent list.
-fn lend_columns(n: usize, g: usize, plan: Admitted, out: &mut [u8]) -> u8
-    requires { ⌜ (plan .number ≡ 0 → Size n g) ⌝ }
+fn lend_columns(n: usize, plan: Admitted, out: &mut [u8]) -> u8
+    requires { ⌜ (plan .number ≡ 0 → n ≤ 16) ⌝ }
     ensures { λ r. ⌜ Lends (plan .number) n (λ zs. Equal n zs (plan .columns)) (now (out .entry)) (now (out .exit)) r ⌝ }
 {
     let number = plan.number;

@@ -1,7 +1,9 @@
 // Results go into lent lists: a list of too few places is refused, else the first places are filled and the places past them are untouched. Public
 // for the calls that fill a lent list.
-ghost use Prim.Native.Nat.{_≤_};
+ghost use mathlib.Core.Path.{_≡_};
+ghost use Prim.Native.Nat.{_+_, _≤_};
 ghost use lib.ListN.{length};
+ghost use lib.Seq.{paste};
 ghost use Rattle.regular.specs.Smallest.{Equal};
 ghost use Rattle.lent.specs.Copied.{Copied, Starts};
 ghost use Rattle.lent.specs.Lending.{Lending};
@@ -43,7 +45,7 @@ pub fn lend_numbers(numbers: &[u16], out: &mut [u16]) -> u8
 }
 
 // The bytes of `bytes` as a result: 8 if `out` has too few places, else 0 with `out` filled.
-pub fn lend_bytes(bytes: &[u8], out: &mut [u8]) -> u8
+fn lend_bytes(bytes: &[u8], out: &mut [u8]) -> u8
     ensures { λ r. ⌜ Lends 0 (length (now (bytes .entry))) (Starts (now (bytes .entry))) (now (out .entry)) (now (out .exit)) r ⌝ }
 {
     if out.len() < bytes.len() {
@@ -59,6 +61,19 @@ pub fn lend_first(n: usize, bytes: [u8; 16], out: &mut [u8]) -> u8
     ensures { λ r. ⌜ Lends 0 n (λ zs. Equal n zs bytes) (now (out .entry)) (now (out .exit)) r ⌝ }
 {
     lend_bytes(&bytes[..n], out)
+}
+
+// The first n bytes of an array, at the places of `out` from `at` on. Public for the catalogue's list of bytes and the book, which see to the room.
+pub fn put_first(n: usize, bytes: [u8; 16], at: usize, out: &mut [u8])
+    requires { ⌜ (n ≤ 16) × (at + n ≤ length (now out)) ⌝ }
+    ensures { λ _. ⌜ now (out .exit) ≡ paste (now (out .entry)) at bytes n ⌝ }
+{
+    let mut f: usize = 0;
+    while f < n {
+        let x = bytes[f];
+        out[at + f] = x;
+        f += 1;
+    }
 }
 
 // The number of a call's other arguments, or else 8 if a lent list has fewer than n places, for the calls that judge it before they fill it.

@@ -1,11 +1,12 @@
 -- Standard columns of an admitted plan: that the plan has few generators, and that what is counted of the columns is what is meant.
 use mathlib.Core.List.{List, _∷_}
 use mathlib.Core.Logic.{⊎-elim, by-cases}
-use mathlib.Core.Path.{_≡_, sym, subst}
+use mathlib.Core.Path.{_≡_, sym, subst, _∙_}
 use Prim.Native.Nat.{ℕ, suc, _+_, _-_, _^_, _≤_, _<_}
 use native.Mathlib.Decide.{decLt}
 use native.Mathlib.Omega.{arith}
 use lib.Bits.{bitXor}
+use lib.Count.{ones-le}
 use lib.ListN.{getD}
 use lib.Pow.{pow-mono, pow-pos}
 use Rattle.gf2.specs.Counts.{Count}
@@ -21,6 +22,7 @@ use Rattle.standard.specs.Units.{standard-below, standard-apart}
 use Rattle.words.specs.Generators.{Generators}
 use Rattle.counts.specs.Distances.{model-distances}
 use Rattle.counts.specs.Models.{PatternModel, DistanceModel}
+use Rattle.counts.specs.Tally.{tally-none}
 use Rattle.counts.specs.WordCounts.{model-pattern}
 use Rattle.admission.specs.Admission.{Ready}
 use Rattle.generators.specs.WordTable.{WordTable, table-generators}
@@ -68,20 +70,23 @@ module _ {n g : ℕ} {a : List ℕ} (ready : Ready n g a) where
       let e : n - (n - g) ≡ g = omega (arith, z .less) in
       subst (λ (k : ℕ). Generators n k plan ws) e (table-generators n (n - g) plan a ws standard t)
 
-  pub words-within : {ws : List ℕ} → WordTable n a ws → (i : ℕ) → i < g → getD ws i 0 < 2 ^ n
-  words-within {ws} t = words ws t .within
-
   -- the pattern
   pub words-pattern : {ws p : List ℕ} → WordTable n a ws → PatternModel n g ws p → Pattern n plan p
   words-pattern {ws} {p} t = model-pattern n g plan ws (words ws t) p
 
-  -- the runs
-  pub runs-within : {t : List ℕ} → RunTable n (n - g) a t → (j : ℕ) → j < 2 ^ (n - g) → getD t j 0 < 2 ^ n
-  runs-within {t} r j h = omega (arith, r .run j h, run-lt a n j)
+  -- the runs have at most n low levels
+  runs-within : {t : List ℕ} → RunTable n (n - g) a t → (j : ℕ) → j < 2 ^ (n - g) → letters (getD t j 0) ≤ n
+  runs-within {t} r j h = ones-le n (getD t j 0) (omega (arith, r .run j h, run-lt a n j))
 
   -- the distance counts
-  pub runs-distances : {end : ℕ} {t d : List ℕ} → RunTable n (n - g) a t → end ≡ 2 ^ (n - g) → DistanceModel n end t d → Distances n plan 0 d
-  runs-distances {end} {t} {d} = model-distances n (n - g) a (standard-apart n (n - g) a (ready .form)) end t d
+  pub runs-distances : {end : ℕ} {t d : List ℕ} → RunTable n (n - g) a t → end ≡ 2 ^ (n - g) → DistanceModel 16 end t d → Distances n plan 0 d
+  runs-distances {end} {t} {d} r e c =
+      model-distances n (n - g) a (standard-apart n (n - g) a (ready .form)) end t d r e
+      (record {
+        counts = λ i l. c .counts i (omega (arith, ready .size .most));
+        unused = λ i l. by-cases (decLt 16 i) (c .unused i)
+            (λ s. c .counts i (omega arith) ∙ tally-none (λ j. letters (getD t j 0)) end i (λ j h q. omega (arith, runs-within r j (omega arith))));
+      })
 
 -- counts in the first places of a longer list
 pub pattern-begins : (n : ℕ) (s : Runs) (p q : List ℕ) → ((i : ℕ) → i < n → getD q i 0 ≡ getD p i 0) → Pattern n s p → Pattern n s q

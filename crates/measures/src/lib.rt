@@ -15,7 +15,8 @@ use regular::Admitted;
 use regular::Design;
 use regular::ResolutionAnswer;
 
-// The pattern of standard columns: the count of length l at place l - 1. Public for the call on aberration, which admits its plans first.
+// The pattern of standard columns: the count of length l at place l - 1. Public for the calls on aberration, comparison, several plans and the book,
+// which admit their plans first.
 pub fn pattern(n: usize, g: usize, columns: [u8; 16]) -> [u16; 16]
     requires { ⌜ Ready n g columns ⌝ }
     ensures { λ r. ⌜ Pattern n (planOf n (n - g) columns) r ⌝ }
@@ -31,7 +32,7 @@ fn distances(n: usize, g: usize, columns: [u8; 16]) -> [u16; 17]
 {
     let m = n - g;
     let runs = column_forms::run_table(n, m, columns);
-    patterns::distances_of(n, power(m), runs)
+    patterns::distances_of(power(m), runs)
 }
 
 // The pattern of an admitted plan, in a lent list.

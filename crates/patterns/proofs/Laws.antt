@@ -7,10 +7,9 @@ use Prim.Native.Nat.{ℕ, zero, suc, _+_, _-_, _*_, _%_, _^_, _≤_, _<_}
 use native.Mathlib.Nat.{two-pow-succ}
 use native.Mathlib.Numerals.{add-one}
 use native.Mathlib.Omega.{arith}
-use native.Mathlib.Decide.{ℕ-discrete, decLt, decLe}
+use native.Mathlib.Decide.{ℕ-discrete, decLt}
 use borrow.Author.Tests.{ltb-true, ltb-false}
 use lib.Bits.{bitXor}
-use lib.Count.{ones-le}
 use lib.Dec.{ltb}
 use lib.ListN.{length, getD, set, replicate, length-set, List·getD-eq-default}
 use lib.Pow.{pow-mono, shl-exact}
@@ -18,7 +17,7 @@ use lib.Seq.{getD-set-same, getD-set-other}
 use Rattle.gf2.specs.Fill.{zeros}
 use Rattle.counts.specs.Models.{PatternModel, DistanceModel, firstLength}
 use Rattle.counts.specs.Resolutions.{first-none, first-here, first-kept}
-use Rattle.counts.specs.Tally.{tally, tally-start, tally-hit, tally-miss, tally-le, tally-same, tally-none}
+use Rattle.counts.specs.Tally.{tally, tally-start, tally-hit, tally-miss, tally-le, tally-same}
 use Rattle.regular.specs.Pattern.{Better, ofLength}
 use Rattle.regular.specs.Words.{letters, total}
 use Rattle.standard.specs.Total.{total-more, total-next}
@@ -131,14 +130,8 @@ pattern-model n g end ws sums counts p h e a b f =
     }
 
 -- the distance counts
-pub distance-model : (n end : ℕ) (runs d : List ℕ) → n ≤ 16 → ((j : ℕ) → j < end → getD runs j 0 < 2 ^ n) → LetterCounts end runs d → DistanceModel n end runs d
-distance-model n end runs d h within c =
-    record {
-      counts = λ i l. c .count i (omega arith);
-      unused = λ i l. by-cases (decLe i 16)
-          (λ s. c .count i s ∙ tally-none (λ j. letters (getD runs j 0)) end i (λ j b e. omega (arith, ones-le n (getD runs j 0) (within j b))))
-          (λ s. List·getD-eq-default d 0 {n = i} (omega (arith, c .places)));
-    }
+pub distance-model : (end : ℕ) (runs d : List ℕ) → LetterCounts end runs d → DistanceModel 16 end runs d
+distance-model end runs d c = record { counts = c .count; unused = λ i l. List·getD-eq-default d 0 {n = i} (omega (arith, c .places)) }
 
 -- the first length
 first-stays : (p : List ℕ) (i d : ℕ) → (firstLength i p ≡ 0 → ⊥) → firstLength (d + i) p ≡ firstLength i p

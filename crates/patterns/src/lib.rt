@@ -2,8 +2,8 @@
 // Public for the calls on plans, which check their arguments first.
 ghost use mathlib.Core.Bool.{true, false};
 ghost use mathlib.Core.Path.{_≡_};
-ghost use Prim.Native.Nat.{ℕ, _^_, _<_, _≤_};
-ghost use lib.ListN.{length, getD};
+ghost use Prim.Native.Nat.{_≤_};
+ghost use lib.ListN.{length};
 ghost use Rattle.regular.specs.Pattern.{Better};
 ghost use Rattle.counts.specs.Models.{PatternModel, DistanceModel, firstLength};
 ghost use Rattle.patterns.specs.Steps.{Doubled, Products, LetterCounts, FromOne};
@@ -69,7 +69,7 @@ fn from_one(n: usize, counts: [u16; 17]) -> [u16; 16]
 
 // The pattern of a plan from generators of its words: the count of length l at place l - 1. Called by the calls on patterns.
 pub fn pattern_of(n: usize, g: usize, words: [u16; 16]) -> [u16; 16]
-    requires { ⌜ (n ≤ 16) × (g ≤ 11) × ((i : ℕ) → i < g → getD words i 0 < 2 ^ n) ⌝ }
+    requires { ⌜ (n ≤ 16) × (g ≤ 11) ⌝ }
     ensures { λ r. ⌜ PatternModel n g words r ⌝ }
 {
     let sums = products(g, words);
@@ -78,7 +78,8 @@ pub fn pattern_of(n: usize, g: usize, words: [u16; 16]) -> [u16; 16]
     from_one(n, counts)
 }
 
-// The resolution from the pattern: the first length with a word, 0 if there is none. Called by the calls on resolution.
+// The resolution from the pattern: the first length with a word, 0 if there is none. Called by the calls on resolution and
+// the refusal of several plans.
 pub fn resolution_of(n: usize, pattern: [u16; 16]) -> u8
     requires { ⌜ n ≤ 16 ⌝ }
     ensures { λ r. ⌜ r ≡ firstLength n pattern ⌝ }
@@ -94,9 +95,9 @@ pub fn resolution_of(n: usize, pattern: [u16; 16]) -> u8
 }
 
 // How many of the first `end` runs have i low levels, at place i. Called by the calls on distance counts.
-pub fn distances_of(n: usize, end: usize, runs: [u16; 128]) -> [u16; 17]
-    requires { ⌜ (n ≤ 16) × (end ≤ 128) × ((j : ℕ) → j < end → getD runs j 0 < 2 ^ n) ⌝ }
-    ensures { λ r. ⌜ DistanceModel n end runs r ⌝ }
+pub fn distances_of(end: usize, runs: [u16; 128]) -> [u16; 17]
+    requires { ⌜ end ≤ 128 ⌝ }
+    ensures { λ r. ⌜ DistanceModel 16 end runs r ⌝ }
 {
     letter_counts(&runs, end)
 }

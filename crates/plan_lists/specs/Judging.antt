@@ -93,24 +93,24 @@ judged {fault} {n} {g} {r} {s} {k} {a} (suc number) most ad v =
 
 -- one plan more
 module _ (S : ℕ → Type 0) (fault : ℕ → ℕ → Type 0) (count lowest k : ℕ) (low : Lowest (either S (ofSome (λ i. i < count) fault)) lowest) (j : Joined (fault count) lowest k) where
-  abbrev Before : ℕ → Type 0
-  Before = either S (ofSome (λ i. i < count) fault)
+  abbrev FaultsBefore : ℕ → Type 0
+  FaultsBefore = either S (ofSome (λ i. i < count) fault)
 
-  abbrev After : ℕ → Type 0
-  After = either S (ofSome (λ i. i < suc count) fault)
+  abbrev FaultsAfter : ℕ → Type 0
+  FaultsAfter = either S (ofSome (λ i. i < suc count) fault)
 
-  joined-into : (k : ℕ) → either Before (fault count) k → After k
+  joined-into : (k : ℕ) → either FaultsBefore (fault count) k → FaultsAfter k
   joined-into k (inl (inl s)) = inl s
   joined-into k (inl (inr (i, (l, f)))) = inr (i, (omega arith, f))
   joined-into k (inr f) = inr (count, (omega arith, f))
 
-  joined-onto : (k : ℕ) → After k → either Before (fault count) k
+  joined-onto : (k : ℕ) → FaultsAfter k → either FaultsBefore (fault count) k
   joined-onto k (inl s) = inl (inl s)
   joined-onto k (inr (i, (l, f))) =
       by-cases (decLt i count) (λ h. inl (inr (i, (h, f)))) (λ h. let e : i ≡ count = omega arith in inr (subst (λ (m : ℕ). fault m k) e f))
 
-  pub joined : Lowest After k
-  joined = lowest-same (either Before (fault count)) After k joined-into joined-onto (lowest-lower Before (fault count) lowest (j .number) k low (j .own) (j .lower))
+  pub joined : Lowest FaultsAfter k
+  joined = lowest-same (either FaultsBefore (fault count)) FaultsAfter k joined-into joined-onto (lowest-lower FaultsBefore (fault count) lowest (j .number) k low (j .own) (j .lower))
 
   pub joined-next : Lowest (either S (ofSome (λ i. i < count + 1) fault)) k
   joined-next = subst (λ (c : ℕ). Lowest (either S (ofSome (λ i. i < c) fault)) k) (sym (add-one count)) joined

@@ -6,19 +6,27 @@ use Prim.Native.Nat.{ℕ, zero, suc, _+_, _-_, _*_, _/_, _%_, _^_, _≤_, _<_}
 use native.Mathlib.Omega.{arith}
 use native.Mathlib.Nat.{pow-succ', add-zero, add-suc, le-of-eq}
 use native.Mathlib.Decide.{decLe}
-use mathlib.Core.Logic.{_⊎_, ⊎-elim, by-cases}
+use mathlib.Core.Logic.{by-cases}
 use native.Mathlib.Numerals.{add-one}
 use borrow.Author.Tests.{lt-ltb, le-ltb}
 use Rattle.io.specs.Counts.{Counts}
 use Rattle.io.specs.Digits.{digits, glyph, Fewest}
 use lib.ListN.{length, getD, take, drop, set, length-set, length-append}
-use lib.Seq.{take-suc, take-suc-set, take-length, drop-append-le}
-use Rattle.plans.proofs.Counting.{taken, counts}
-use Rattle.plans.specs.Text.{Adds, digitsUpTo, next, spaced}
+use lib.Seq.{take-suc, take-suc-set, take-length, drop-drop, drop-set-lt}
+use Rattle.regular.specs.Book.{each}
+use Rattle.regular.specs.Pattern.{ofLength}
+use Rattle.plans.proofs.Counting.{counts}
+use Rattle.plans.specs.Text.{Adds, digitsUpTo, next, columnsText, countsText}
 
 -- nothing was added yet
 pub adds-none : (xs : List ℕ) (at : ℕ) → Adds xs xs at [] at
-adds-none xs at = record { text = sym (append-nil (take at xs)); place = omega arith; size = refl }
+adds-none xs at = record { text = sym (append-nil (take at xs)); place = omega arith; rest = refl; size = refl }
+
+-- what is untouched from a place on is so from a later one
+later : (xs ys : List ℕ) (i j : ℕ) → i ≤ j → drop i ys ≡ drop i xs → drop j ys ≡ drop j xs
+later xs ys i j h e =
+    let k : i + (j - i) ≡ j = omega arith in
+    subst (λ (p : ℕ). drop p ys ≡ drop p xs) k (sym (drop-drop (j - i) i ys) ∙ ap (drop (j - i)) e ∙ drop-drop (j - i) i xs)
 
 -- one byte more
 adds-byte : (xs ys : List ℕ) (at : ℕ) (t : List ℕ) (end b : ℕ) → Adds xs ys at t end → end < length ys → Adds xs (set ys end b) at (t ++ (b ∷ [])) (end + 1)
@@ -28,6 +36,7 @@ adds-byte xs ys at t end b a h =
           ap (λ (k : ℕ). take k (set ys end b)) (add-one end) ∙ take-suc-set ys end b h ∙ ap (λ (l : List ℕ). l ++ (b ∷ [])) (a .text)
           ∙ append-assoc (take at xs) t (b ∷ []);
       place = omega (arith, a .place, length-append t (b ∷ []));
+      rest = drop-set-lt (end + 1) ys end b (omega arith) ∙ later xs ys end (end + 1) (omega arith) (a .rest);
       size = length-set ys end b ∙ a .size;
     }
 
@@ -37,6 +46,7 @@ adds-more {xs} {ys} {zs} {at} {mid} {end} {t} {u} a b =
     record {
       text = b .text ∙ ap (λ (l : List ℕ). l ++ u) (a .text) ∙ append-assoc (take at xs) t u;
       place = omega (arith, a .place, b .place, length-append t u);
+      rest = b .rest ∙ later xs ys mid end (omega (arith, b .place)) (a .rest);
       size = b .size ∙ a .size;
     }
 
@@ -107,38 +117,30 @@ few-digits x k h f =
     absurd (omega (arith, h, m, o)))
 
 -- the first line of a list
-pub line-of : {xs ys : List ℕ} {t : List ℕ} {k : ℕ} → Adds xs ys 0 t k → k ≤ length xs → Counts k ys × (take k ys ≡ t)
-line-of {xs} {ys} {t} {k} a h = (counts k ys (omega (arith, a .size, h)), a .text)
+pub line-of : {xs ys : List ℕ} {t : List ℕ} {k : ℕ} → Adds xs ys 0 t k → k ≤ length xs → Counts k ys × Adds xs ys 0 t k
+line-of {xs} {ys} {t} {k} a h = (counts k ys (omega (arith, a .size, h)), a)
 
--- one more number
-spaced-more : (xs : List ℕ) (x : ℕ) → spaced (xs ++ (x ∷ [])) ≡ spaced xs ++ next x
-unfolding spaced
-spaced-more [] x = append-nil (next x)
-spaced-more (y ∷ ys) x = ap (λ (l : List ℕ). next y ++ l) (spaced-more ys x) ∙ sym (append-assoc (next y) (spaced ys) (next x))
+-- numbers, each after a space: none yet, one column more, the count of one length more
+pub columns-none : (xs : List ℕ) (at : ℕ) (columns : List ℕ) → Adds xs xs at (columnsText 0 columns) at
+unfolding each
+columns-none xs at columns = adds-none xs at
 
-pub numbers-none : (xs : List ℕ) (at : ℕ) → Adds xs xs at (spaced []) at
-unfolding spaced
-numbers-none = adds-none
+pub counts-none : (xs : List ℕ) (at : ℕ) (counts : List ℕ) → Adds xs xs at (countsText 2 counts) at
+unfolding each
+counts-none xs at counts = adds-none xs at
 
-pub number-turn : {xs ys zs : List ℕ} {at mid end : ℕ} (t u : List ℕ) (x : ℕ) → Adds xs ys at (spaced t) mid → Adds ys zs mid (next x) end → u ≡ t ++ (x ∷ []) → Adds xs zs at (spaced u) end
-number-turn t u x a b e = adds-is (sym (spaced-more t x) ∙ ap spaced (sym e)) (adds-more a b)
+part-more : {xs ys zs : List ℕ} {at mid end : ℕ} (part : ℕ → List ℕ) (k : ℕ) → Adds xs ys at (each part k) mid → Adds ys zs mid (part k) end → Adds xs zs at (each part (suc k)) end
+unfolding each
+part-more part k a b = adds-more a b
 
--- .. of a list from its start, and from its third place
-pub take-more : (xs : List ℕ) (f : ℕ) → f < length xs → take (f + 1) xs ≡ take f xs ++ (getD xs f 0 ∷ [])
-take-more xs f h = ap (λ (k : ℕ). take k xs) (add-one f) ∙ take-suc xs f 0 h
+pub column-turn : {xs ys zs : List ℕ} {at mid end : ℕ} (columns : List ℕ) (f : ℕ) → Adds xs ys at (columnsText f columns) mid → Adds ys zs mid (next (getD columns f 0)) end
+    → Adds xs zs at (columnsText (f + 1) columns) end
+column-turn columns f a b = adds-is (ap (λ (k : ℕ). columnsText k columns) (sym (add-one f))) (part-more (λ i. next (getD columns i 0)) f a b)
 
-pub third-more : (xs : List ℕ) (l : ℕ) → 2 ≤ l → l < length xs → drop 2 (take (l + 1) xs) ≡ drop 2 (take l xs) ++ (getD xs l 0 ∷ [])
-third-more xs l low h = ap (drop 2) (take-more xs l h) ∙ drop-append-le 2 (take l xs) (getD xs l 0 ∷ []) (omega (arith, taken l xs (omega arith)))
-
-pub third-none : (xs : List ℕ) (n : ℕ) → n ≤ 2 → drop 2 (take n xs) ≡ []
-third-none xs zero h = refl
-third-none [] (suc n) h = refl
-third-none (x ∷ xs) (suc zero) h = refl
-third-none (x ∷ []) (suc (suc n)) h = refl
-third-none (x ∷ y ∷ xs) (suc (suc zero)) h = refl
-third-none (x ∷ y ∷ xs) (suc (suc (suc n))) h = absurd (omega arith)
-
-pub third-all : (xs : List ℕ) (n l : ℕ) → n ≤ l → (l ≤ n) ⊎ (l ≡ 2) → drop 2 (take l xs) ≡ drop 2 (take n xs)
-third-all xs n l h =
-    ⊎-elim (λ k. let e : l ≡ n = omega arith in ap (λ (i : ℕ). drop 2 (take i xs)) e)
-    (λ k. third-none xs l (omega arith) ∙ sym (third-none xs n (omega arith)))
+pub count-turn : {xs ys zs : List ℕ} {at mid end : ℕ} (counts : List ℕ) (l : ℕ) → 2 ≤ l → Adds xs ys at (countsText l counts) mid → Adds ys zs mid (next (getD counts l 0)) end
+    → Adds xs zs at (countsText (l + 1) counts) end
+count-turn counts l low a b =
+    let part : ℕ → List ℕ = λ i. next (ofLength counts (3 + i)) in
+    let place : l ≡ 3 + (l - 2) - 1 = omega arith in
+    let more : suc (l - 2) ≡ l + 1 - 2 = omega arith in
+    adds-is (ap (each part) more) (part-more part (l - 2) a (adds-is (ap (λ (i : ℕ). next (getD counts i 0)) place) b))

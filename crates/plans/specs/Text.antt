@@ -4,9 +4,10 @@ use mathlib.Core.Bool.{cond}
 use mathlib.Core.List.{List, [], _∷_, _++_}
 use Prim.Native.Nat.{ℕ, zero, suc, _+_, _-_, _/_, _%_}
 use lib.Dec.{ltb}
-use lib.ListN.{length, take, drop}
+use lib.ListN.{length, getD, take, drop}
 use Rattle.regular.specs.Columns.{planOf}
-use Rattle.regular.specs.Pattern.{Pattern, Resolution}
+use Rattle.regular.specs.Pattern.{Pattern, Resolution, ofLength}
+use Rattle.regular.specs.Book.{each}
 use Rattle.regular.specs.declared.Design.{Design}
 
 -- a number in decimal digits, none of them a leading zero; of at most k digits
@@ -17,13 +18,16 @@ digitsUpTo (suc k) x = cond (ltb x 10) ((48 + x) ∷ []) (digitsUpTo k (x / 10) 
 abbrev pub decimal : ℕ → List ℕ
 decimal x = digitsUpTo 20 x
 
--- a number after a space, and a list of numbers so
+-- a number after a space
 abbrev pub next : ℕ → List ℕ
 next x = (32 ∷ []) ++ decimal x
 
-unfoldable pub spaced : List ℕ → List ℕ
-spaced [] = []
-spaced (x ∷ xs) = next x ++ spaced xs
+-- the n columns; the counts for lengths 3 to n, none for n below 3
+abbrev pub columnsText : ℕ → List ℕ → List ℕ
+columnsText n c = each (λ f. next (getD c f 0)) n
+
+abbrev pub countsText : ℕ → List ℕ → List ℕ
+countsText n p = each (λ i. next (ofLength p (3 + i))) (n - 2)
 
 -- "\n", " res", " columns", " pattern", "catalogue", " entries", "refused"
 abbrev pub newline : List ℕ
@@ -51,27 +55,28 @@ refusedWord = 114 ∷ 101 ∷ 102 ∷ 117 ∷ 115 ∷ 101 ∷ 100 ∷ []
 abbrev pub headerLine : ℕ → ℕ → ℕ → ℕ → List ℕ
 headerLine n g r count = catalogueWord ++ next n ++ next g ++ next r ++ entriesWord ++ next count ++ newline
 
--- the line of an entry: place, resolution, columns; then the counts for lengths 3 to n
+-- the line of an entry: place, resolution, columns; then the counts
 abbrev pub start : ℕ → ℕ → ℕ → List ℕ → List ℕ
-start n place resolution columns = decimal place ++ res ++ next resolution ++ columnsWord ++ spaced (take n columns)
+start n place resolution columns = decimal place ++ res ++ next resolution ++ columnsWord ++ columnsText n columns
 
 abbrev pub entry : ℕ → ℕ → ℕ → List ℕ → List ℕ → List ℕ
-entry n place resolution columns pattern = start n place resolution columns ++ patternWord ++ spaced (drop 2 (take n pattern)) ++ newline
+entry n place resolution columns pattern = start n place resolution columns ++ patternWord ++ countsText n pattern ++ newline
 
 -- the line of a refusal
 abbrev pub refused : ℕ → List ℕ
 refused number = refusedWord ++ next number ++ newline
 
--- the text t was added to the list `before` at place `at`, and ends at place `end` of `after`
+-- the text t was added to the list `before` at place `at`, and ends at place `end` of `after`; the bytes past it are untouched
 pub record Adds (before after : List ℕ) (at : ℕ) (t : List ℕ) (end : ℕ) : Type 0 where
   pub text : take end after ≡ take at before ++ t
   pub place : end ≡ at + length t
+  pub rest : drop end after ≡ drop end before
   pub size : length after ≡ length before
 
--- the line of the design d, the place-th entry: its resolution and pattern are those of its plan
-pub record EntryLine (n g place : ℕ) (d : Design) (t : List ℕ) : Type 0 where
+-- the line of the design d, the place-th entry, was put at the start of a list: its resolution and pattern are those of its plan
+pub record EntryLine (n g place : ℕ) (d : Design) (before after : List ℕ) (end : ℕ) : Type 0 where
   pub resolution : ℕ
   pub pattern : List ℕ
   pub is-resolution : Resolution n (planOf n (n - g) (d .columns)) resolution
   pub is-pattern : Pattern n (planOf n (n - g) (d .columns)) pattern
-  pub text : t ≡ entry n place resolution (d .columns) pattern
+  pub text : Adds before after 0 (entry n place resolution (d .columns) pattern) end

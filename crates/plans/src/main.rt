@@ -1,13 +1,14 @@
 // Prints the catalogue of the size that the first line of standard input gives, and reads nothing past that line.
 ghost use mathlib.Core.Path.{_≡_};
 ghost use mathlib.Core.Bool.{false};
-ghost use Prim.Native.Nat.{_≤_, _<_};
+ghost use Prim.Native.Nat.{_≤_};
 ghost use lib.ListN.{replicate};
 ghost use Rattle.io.specs.Counts.{Counts};
 ghost use Rattle.regular.specs.Designs.{blank};
 ghost use Rattle.regular.specs.Catalogues.{ListsDesigns};
 ghost use Rattle.plans.specs.Lines.{DigitIs, SpaceIs, Part, Parsed};
 ghost use Rattle.plans.specs.Listed.{Listable, AllListable};
+use bits::wide_byte;
 use libc::STDIN_FILENO;
 use libc::STDOUT_FILENO;
 use regular::CatalogueAnswer;
@@ -27,7 +28,7 @@ struct Numeral {
 }
 
 // What a line says: a size, or none.
-struct Size {
+struct LineSize {
     ok: bool,
     n: usize,
     g: usize,
@@ -76,12 +77,6 @@ fn read_line(line: &mut [u8]) -> usize
     n
 }
 
-fn wide(x: u8) -> usize
-    ensures { λ r. ⌜ (r ≡ x) × (r < 256) ⌝ }
-{
-    x as usize
-}
-
 // The digit at place p, 10 if none stands there.
 fn digit(line: &[u8], p: usize) -> usize
     ensures { λ r. ⌜ DigitIs (now (line .entry)) p r ⌝ }
@@ -89,7 +84,7 @@ fn digit(line: &[u8], p: usize) -> usize
     if line.len() <= p {
         return 10;
     }
-    let x = wide(line[p]);
+    let x = wide_byte(line[p]);
     if x < 48 {
         return 10;
     }
@@ -135,10 +130,10 @@ fn number(line: &[u8], p: usize) -> Numeral
 }
 
 // No size.
-fn none() -> Size
+fn none() -> LineSize
     ensures { λ r. ⌜ r .ok ≡ false ⌝ }
 {
-    Size {
+    LineSize {
         ok: false,
         n: 0,
         g: 0,
@@ -147,7 +142,7 @@ fn none() -> Size
 }
 
 // The size that a line gives: three numbers of one or two digits, a space between.
-fn parse(line: &[u8]) -> Size
+fn parse(line: &[u8]) -> LineSize
     ensures { λ r. ⌜ Parsed (now (line .entry)) (r .ok) (r .n) (r .g) (r .r) ⌝ }
 {
     let a = number(line, 0);
@@ -174,7 +169,7 @@ fn parse(line: &[u8]) -> Size
     if k != line.len() {
         return none();
     }
-    Size {
+    LineSize {
         ok: true,
         n: a.value,
         g: b.value,

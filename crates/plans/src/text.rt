@@ -1,9 +1,9 @@
-// The lines that are printed, made in a lent list of bytes: each function adds its text from a place on and says the place after it.
-ghost use mathlib.Core.Path.{_≡_};
+// The lines that are printed, made in a lent list of bytes: each function adds its text from a place on and says the place after it. The lines are
+// public for main.rt, which lends 1,024 bytes.
 ghost use Prim.Native.Nat.{_+_, _*_, _≤_};
-ghost use lib.ListN.{length, take, drop};
+ghost use lib.ListN.{length};
 ghost use Rattle.io.specs.Counts.{Counts};
-ghost use Rattle.plans.specs.Text.{Adds, decimal, next, spaced, headerLine, refused, start, entry, EntryLine};
+ghost use Rattle.plans.specs.Text.{Adds, decimal, next, columnsText, countsText, headerLine, refused, start, entry, EntryLine};
 ghost use Rattle.plans.specs.Listed.{Listable};
 use regular::Design;
 
@@ -45,7 +45,7 @@ fn add_next(x: u64, at: usize, out: &mut [u8]) -> usize
 // The columns of n factors, each after a space.
 fn add_columns(n: usize, columns: [u8; 16], at: usize, out: &mut [u8]) -> usize
     requires { ⌜ (n ≤ 16) × (at + 21 * n ≤ length (now out)) ⌝ }
-    ensures { λ r. ⌜ Adds (now (out .entry)) (now (out .exit)) at (spaced (take n columns)) r × (r ≤ at + 21 * n) ⌝ }
+    ensures { λ r. ⌜ Adds (now (out .entry)) (now (out .exit)) at (columnsText n columns) r × (r ≤ at + 21 * n) ⌝ }
 {
     let mut f: usize = 0;
     let mut end = at;
@@ -60,7 +60,7 @@ fn add_columns(n: usize, columns: [u8; 16], at: usize, out: &mut [u8]) -> usize
 // The counts of the words of three letters to n, each after a space.
 fn add_counts(n: usize, counts: [u16; 16], at: usize, out: &mut [u8]) -> usize
     requires { ⌜ (n ≤ 16) × (at + 21 * n ≤ length (now out)) ⌝ }
-    ensures { λ r. ⌜ Adds (now (out .entry)) (now (out .exit)) at (spaced (drop 2 (take n counts))) r × (r ≤ at + 21 * n) ⌝ }
+    ensures { λ r. ⌜ Adds (now (out .entry)) (now (out .exit)) at (countsText n counts) r × (r ≤ at + 21 * n) ⌝ }
 {
     let mut l: usize = 2;
     let mut end = at;
@@ -94,7 +94,7 @@ fn add_entry(
     out: &mut [u8],
 ) -> usize
     requires { ⌜ (n ≤ 16) × (734 ≤ length (now out)) ⌝ }
-    ensures { λ r. ⌜ Counts r (now (out .exit)) × (take r (now (out .exit)) ≡ entry n place resolution columns counts) ⌝ }
+    ensures { λ r. ⌜ Counts r (now (out .exit)) × Adds (now (out .entry)) (now (out .exit)) 0 (entry n place resolution columns counts) r ⌝ }
 {
     let a = add_start(n, place, resolution, columns, out);
     let b = add_text(b" pattern", a, out);
@@ -105,7 +105,7 @@ fn add_entry(
 // The line of an entry: its place, resolution, columns and counts. Says how many bytes.
 pub fn entry_line(n: usize, g: usize, place: usize, d: Design, out: &mut [u8]) -> usize
     requires { ⌜ Listable n g d × (734 ≤ length (now out)) ⌝ }
-    ensures { λ r. ⌜ Counts r (now (out .exit)) × EntryLine n g place d (take r (now (out .exit))) ⌝ }
+    ensures { λ r. ⌜ Counts r (now (out .exit)) × EntryLine n g place d (now (out .entry)) (now (out .exit)) r ⌝ }
 {
     let answer = measures::resolution_of_design(n, g, d);
     let mut counts = [0u16; 16];
@@ -118,7 +118,7 @@ pub fn entry_line(n: usize, g: usize, place: usize, d: Design, out: &mut [u8]) -
 // The header: the size and the entry count.
 pub fn header_line(n: usize, g: usize, r: usize, count: usize, out: &mut [u8]) -> usize
     requires { ⌜ 734 ≤ length (now out) ⌝ }
-    ensures { λ res. ⌜ Counts res (now (out .exit)) × (take res (now (out .exit)) ≡ headerLine n g r count) ⌝ }
+    ensures { λ res. ⌜ Counts res (now (out .exit)) × Adds (now (out .entry)) (now (out .exit)) 0 (headerLine n g r count) res ⌝ }
 {
     let a = add_text(b"catalogue", 0, out);
     let b = add_next(n as u64, a, out);
@@ -132,7 +132,7 @@ pub fn header_line(n: usize, g: usize, r: usize, count: usize, out: &mut [u8]) -
 // The line of a refusal.
 pub fn refused_line(number: u8, out: &mut [u8]) -> usize
     requires { ⌜ 734 ≤ length (now out) ⌝ }
-    ensures { λ r. ⌜ Counts r (now (out .exit)) × (take r (now (out .exit)) ≡ refused number) ⌝ }
+    ensures { λ r. ⌜ Counts r (now (out .exit)) × Adds (now (out .entry)) (now (out .exit)) 0 (refused number) r ⌝ }
 {
     let a = add_text(b"refused", 0, out);
     let b = add_next(number as u64, a, out);

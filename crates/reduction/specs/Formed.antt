@@ -27,7 +27,8 @@ use Rattle.admission.specs.Admission.{Admission}
 use Rattle.lent.specs.Lending.{Lending, lending-accepted}
 use Rattle.reduction.specs.Settling.{Settles}
 
--- the smallest form of the plan s with its faults, and a witness to it, where the other arguments but the lent list have the number `other`
+-- the smallest form of the plan s with its faults, its place not yet looked for, and a witness to it, where the other arguments but the lent list
+-- have the number `other`
 pub record Formed (fault : ℕ → Type 0) (n g : ℕ) (s : Runs) (Mask : ℕ → Type 0) (other : ℕ) (entry exit : List ℕ) (r : SmallestAnswer) : Type 0 where
   pub own : ℕ
   pub lowest : Lowest fault own
@@ -36,6 +37,7 @@ pub record Formed (fault : ℕ → Type 0) (n g : ℕ) (s : Runs) (Mask : ℕ �
   pub number : Lending both n (length entry) (r .number)
   pub blank-design : 0 < r .number → r .design ≡ blank
   pub no-mask : 0 < r .number → r .mask ≡ 0
+  pub no-place : r .place ≡ 0
   pub untouched : 0 < r .number → exit ≡ entry
   pub sizes : r .number ≡ 0 → Size n g
   pub design : r .number ≡ 0 → Holds n (n - g) (Smallest n (n - g) s) (r .design)
@@ -67,6 +69,7 @@ module _ (fault : ℕ → Type 0) (n g : ℕ) (s : Runs) (own : ℕ) (a : List �
     number = h .number;
     blank-design = h .blank-design;
     no-mask = h .no-mask;
+    no-place = h .no-place;
     untouched = h .untouched;
     sizes = λ e. sizes (accepted e);
     design = λ e. let d = h .design e in

@@ -21,12 +21,13 @@ use Rattle.isomorphism_laws.specs.Moving.{moved-names, carries-names}
 pub admission-ready : (fault : ℕ → Type 0) (n g : ℕ) (s : Runs) (own : ℕ) (a : List ℕ) (other x : ℕ) → Admission fault n g s own a → Lower own other x → x ≡ 0 → Ready n g a
 admission-ready fault n g s own a other x ad l z = ready ad (lower-none own other x l z .0)
 
--- the smallest form of the plan of standard columns a, where the call's arguments but the lent list have the number x; `from` is a run that was
--- switched to 0
+-- the smallest form of the plan of standard columns a, its place not yet looked for, where the call's arguments but the lent list have the
+-- number x; `from` is a run that was switched to 0
 pub record Settles (n m x : ℕ) (a : List ℕ) (from : ℕ) (entry exit : List ℕ) (r : SmallestAnswer) : Type 0 where
   pub number : Lending x n (length entry) (r .number)
   pub blank-design : 0 < r .number → r .design ≡ blank
   pub no-mask : 0 < r .number → r .mask ≡ 0
+  pub no-place : r .place ≡ 0
   pub untouched : 0 < r .number → exit ≡ entry
   pub design : r .number ≡ 0 → Holds n m (Smallest n m (planOf n m a)) (r .design)
   pub witness : r .number ≡ 0 → Carries n (planOf n m a) (planOf n m (r .design .columns)) exit 0
@@ -40,6 +41,7 @@ settles-refused n m x a from ys k h w = record {
   number = w;
   blank-design = λ _. refl;
   no-mask = λ _. refl;
+  no-place = refl;
   untouched = λ _. refl;
   design = λ e. absurd (h e);
   witness = λ e. absurd (h e);
@@ -54,6 +56,7 @@ settles-form n m x a from columns names ys zs mask w f l e = record {
   number = w;
   blank-design = λ h. absurd (omega arith);
   no-mask = λ h. absurd (omega arith);
+  no-place = refl;
   untouched = λ h. absurd (omega arith);
   design = λ _. record { factors = refl; basics = refl; columns = f .smallest; unused = λ g h _. f .unused g h };
   witness = λ _. carries-names n (planOf n m a) (planOf n m columns) names zs 0 (l .places) (f .carries);

@@ -16,7 +16,7 @@ catalogueFaults n g r room = either (sizeFaults n g r) (RoomFault n (n - g) r ro
 pub record Begins (n m r : ℕ) (room : ℕ → Type 0) (entry : ℕ → List ℕ) (count : ℕ) : Type 0 where
   pub fits : room count
   pub full : room (suc count) → ⊥
-  pub first : (total : ℕ) (all : ℕ → List ℕ) → Catalogue n m r total all → (i : ℕ) → i < count → Equal n (entry i) (all i)
+  pub first : (whole : ℕ) (all : ℕ → List ℕ) → Catalogue n m r whole all → (i : ℕ) → i < count → Equal n (entry i) (all i)
 
 -- the answer: the lowest number that applies, and the entries. Accepted: the catalogue. Refused by 9: its first entries, as many as there is room for.
 -- Refused by 1, 2 or 3: none

@@ -48,7 +48,7 @@ pub record StandardColumns (n m : ℕ) (s : Runs) (c : List ℕ) : Type 0 where
   pub basic : (f k : ℕ) → f < n → Basic n s f → Count (λ e. (e < f) × Basic n s e) k → getD c f 0 ≡ 2 ^ k
 
 -- the run table of a plan, by its standard columns: in a list, and in 128 places
-pub record RunsOfPlan (n m : ℕ) (Table : ℕ → ℕ → List ℕ → List ℕ → Type 0) (s : Runs) (t : List ℕ) : Type 0 where
+pub record RunsOfPlan (n m : ℕ) (Form : ℕ → ℕ → List ℕ → List ℕ → Type 0) (s : Runs) (t : List ℕ) : Type 0 where
   pub columns : List ℕ
   pub standard : StandardColumns n m s columns
-  pub table : Table n m columns t
+  pub table : Form n m columns t

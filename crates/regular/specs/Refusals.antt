@@ -5,6 +5,7 @@ use mathlib.Core.Path.{_≡_}
 use mathlib.Core.Logic.{_⊎_}
 use mathlib.Core.List.{List}
 use lib.ListN.{length, getD, take, drop}
+use denote.Ref.{RefT}
 use Rattle.gf2.specs.Members.{In, Different}
 use Rattle.regular.specs.Runs.{Runs, runsOf, Regular}
 use Rattle.regular.specs.Words.{Word, letters, Generated, Independent}
@@ -68,7 +69,7 @@ pub data LentFault (k : ℕ) (out : List ℕ) : ℕ → Type 0 where
 
 -- 9: the catalogue has more entries than there is room for; `room k` says that k entries have room
 pub data RoomFault (n m r : ℕ) (room : ℕ → Type 0) : ℕ → Type 0 where
-  more : (total : ℕ) (all : ℕ → List ℕ) → Catalogue n m r total all → (room total → ⊥) → RoomFault n m r room 9
+  more : (whole : ℕ) (all : ℕ → List ℕ) → Catalogue n m r whole all → (room whole → ⊥) → RoomFault n m r room 9
 
 -- the faults of two arguments
 abbrev pub either : (ℕ → Type 0) → (ℕ → Type 0) → ℕ → Type 0
@@ -96,13 +97,13 @@ pub record Lowest (fault : ℕ → Type 0) (r : ℕ) : Type 0 where
   pub applies : 0 < r → fault r
   pub least : (k : ℕ) → fault k → (0 < r) × (r ≤ k)
 
--- a call that answers a number and a value: the blank value if refused
-pub record Gives {A : Type 0} (fault : ℕ → Type 0) (Result : A → Type 0) (blank : A) (r : ℕ) (value : A) : Type 0 where
+-- a call that answers a number and a value: the value `none` if refused
+pub record Gives {A : Type 0} (fault : ℕ → Type 0) (Result : A → Type 0) (none : A) (r : ℕ) (value : A) : Type 0 where
   pub number : Lowest fault r
-  pub refused : 0 < r → value ≡ blank
+  pub refused : 0 < r → value ≡ none
   pub result : r ≡ 0 → Result value
 
--- a call that answers a number and fills the first k places of a lent list, from `entry` to `exit`: untouched past them, and whole if refused
+-- a call that answers a number and fills the first k places of a lent list, from `entry` to `exit`: untouched past them, all of it untouched if refused
 pub record Fills (fault : ℕ → Type 0) (k : ℕ) (Result : List ℕ → Type 0) (entry exit : List ℕ) (r : ℕ) : Type 0 where
   pub number : Lowest fault r
   pub refused : 0 < r → exit ≡ entry
@@ -110,14 +111,16 @@ pub record Fills (fault : ℕ → Type 0) (k : ℕ) (Result : List ℕ → Type 
   pub past : r ≡ 0 → drop k exit ≡ drop k entry
   pub size : length exit ≡ length entry
 
--- a call that says which of two lists it takes: 1 the first, 2 the second if it is better, 0 if it refuses
-pub data Chooses (fault : ℕ → Type 0) (Better : Type 0) : ℕ → Type 0 where
-  refused : (k : ℕ) → 0 < k → Lowest fault k → Chooses fault Better 0
-  first : Lowest fault 0 → (Better → ⊥) → Chooses fault Better 1
-  second : Lowest fault 0 → Better → Chooses fault Better 2
+-- a call that says which of two lists it takes: 1 the first, 2 the second if it has less, 0 if it refuses
+pub data Chooses (fault : ℕ → Type 0) (Less : Type 0) : ℕ → Type 0 where
+  refused : (k : ℕ) → 0 < k → Lowest fault k → Chooses fault Less 0
+  first : Lowest fault 0 → (Less → ⊥) → Chooses fault Less 1
+  second : Lowest fault 0 → Less → Chooses fault Less 2
 
--- a call that hands back one of two lent lists, the first unless the second is better: the empty start of the first if refused
-pub record HandsBack {A : Type 0} (fault : ℕ → Type 0) (Better : Type 0) (first second r : A) (firstNow now : List ℕ) : Type 0 where
-  pub better : Lowest fault 0 → Better → r ≡ second
-  pub otherwise : Lowest fault 0 → (Better → ⊥) → r ≡ first
-  pub refused : (k : ℕ) → 0 < k → Lowest fault k → now ≡ take 0 firstNow
+-- a call that hands back one of two lent lists, the first unless the second has less; if refused, the empty start of the first: none of its
+-- numbers (`now`), where the first stands (`ptr`)
+pub record HandsBack (fault : ℕ → Type 0) (Less : Type 0) (first second r : RefT (List ℕ)) : Type 0 where
+  pub better : Lowest fault 0 → Less → r ≡ second
+  pub otherwise : Lowest fault 0 → (Less → ⊥) → r ≡ first
+  pub refused : (k : ℕ) → 0 < k → Lowest fault k → r .now ≡ take 0 (first .now)
+  pub start : (k : ℕ) → 0 < k → Lowest fault k → r .ptr ≡ first .ptr

@@ -32,7 +32,7 @@ pub struct Standardized {
     pub columns: [u8; 16],
 }
 
-// A refusal's number, 0 if accepted, and the plan's standard columns.
+// A refusal's number, 0 if accepted, and the plan's standard columns; sixteen zeros if refused.
 pub struct Admitted {
     pub number: u8,
     pub columns: [u8; 16],

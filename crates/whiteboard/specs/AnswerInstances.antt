@@ -6,6 +6,7 @@ use mathlib.Core.List.{List, [], _∷_}
 use Prim.Native.Nat.{ℕ, _-_, _≤_, _<_}
 use native.Mathlib.Omega.{arith}
 use lib.ListN.{length, getD}
+use denote.Ref.{RefT}
 use Rattle.gf2.specs.Counts.{Count}
 use Rattle.regular.specs.Runs.{Runs, runsOf}
 use Rattle.regular.specs.Words.{Word, Generated, letters}
@@ -83,12 +84,17 @@ twice F r h l = lowest-first F F r h l (λ k f. l .least k f .1)
 pub chooses-refused : Chooses (either (wordsFaults 3 1 (3 ∷ [])) (wordsFaults 3 1 (3 ∷ []))) (LessAberration 3 2 (Generated 3 1 (3 ∷ [])) (Generated 3 1 (3 ∷ []))) 0
 chooses-refused = Chooses.refused 7 (omega arith) (twice (wordsFaults 3 1 (3 ∷ [])) 7 (omega arith) refusal-7)
 
-pub hands-second : HandsBack {A = List ℕ} (either (wordsFaults 4 1 (7 ∷ [])) (wordsFaults 4 1 (15 ∷ []))) (LessAberration 4 3 (Generated 4 1 (15 ∷ [])) (Generated 4 1 (7 ∷ [])))
-    (7 ∷ []) (15 ∷ []) (15 ∷ []) (7 ∷ []) (15 ∷ [])
+-- a list lent from a place
+abbrev lentAt : ℕ → List ℕ → RefT (List ℕ)
+lentAt place list = record { ptr = (place, 0); name = place; now = list }
+
+pub hands-second : HandsBack (either (wordsFaults 4 1 (7 ∷ [])) (wordsFaults 4 1 (15 ∷ []))) (LessAberration 4 3 (Generated 4 1 (15 ∷ [])) (Generated 4 1 (7 ∷ [])))
+    (lentAt 1 (7 ∷ [])) (lentAt 2 (15 ∷ [])) (lentAt 2 (15 ∷ []))
 hands-second = record {
   better = λ l b. refl;
   otherwise = λ l n. absurd (n less-abcd);
   refused = λ k h l. absurd (omega (arith, lowest-unique both k 0 l accepted));
+  start = λ k h l. absurd (omega (arith, lowest-unique both k 0 l accepted));
 }
   where
     both : ℕ → Type 0
@@ -97,12 +103,13 @@ hands-second = record {
     accepted : Lowest both 0
     accepted = lowest-then (wordsFaults 4 1 (7 ∷ [])) (wordsFaults 4 1 (15 ∷ [])) 0 accepted-words accepted-word-abcd
 
-pub hands-empty : HandsBack {A = List ℕ} (either (wordsFaults 3 1 (3 ∷ [])) (wordsFaults 3 1 (3 ∷ []))) (LessAberration 3 2 (Generated 3 1 (3 ∷ [])) (Generated 3 1 (3 ∷ [])))
-    (3 ∷ []) (3 ∷ []) [] (3 ∷ []) []
+pub hands-empty : HandsBack (either (wordsFaults 3 1 (3 ∷ [])) (wordsFaults 3 1 (3 ∷ []))) (LessAberration 3 2 (Generated 3 1 (3 ∷ [])) (Generated 3 1 (3 ∷ [])))
+    (lentAt 1 (3 ∷ [])) (lentAt 2 (3 ∷ [])) (lentAt 1 [])
 hands-empty = record {
   better = λ l b. absurd (omega (arith, lowest-unique both 0 7 l refused));
   otherwise = λ l n. absurd (omega (arith, lowest-unique both 0 7 l refused));
   refused = λ k h l. refl;
+  start = λ k h l. refl;
 }
   where
     both : ℕ → Type 0

@@ -12,7 +12,7 @@ slice-aggregate-result : tie.Need-slice-aggregate-result
 slice-aggregate-result c = search needs
 
 returns : tie.Need-returns
-returns c = hands-start (c .before .before .choice .ensures) (c .before .if1 .taken) refl
+returns c = hands-start (c .before .before .choice .ensures) (c .before .if1 .taken) refl refl
 
 returns-2 : tie.Need-returns-2
 returns-2 c = hands-second (c .before .before .choice .ensures) (c .if2 .taken)

@@ -20,11 +20,11 @@ cast-out c = search needs
 slice-write-out : tie.Need-slice-write-out
 slice-write-out c = search needs
 
-add-put-columns : tie.Need-add-put-columns
-add-put-columns c = search needs
+add-put-first : tie.Need-add-put-first
+add-put-first c = search needs
 
-put-columns-requires : tie.Need-put-columns-requires
-put-columns-requires c κs =
+put-first-requires : tie.Need-put-first-requires
+put-first-requires c κs =
     let s = c .before .before in
     let a = s .args in
     (s .pre .0, omega (arith, s .pre .1, length-set (a .out .now) (a .at) (32 + a .n)))
@@ -45,8 +45,8 @@ slice-write-out-2 : tie.Need-slice-write-out-2
 slice-write-out-2 c =
     let s = c .before .before .before .before .before in
     let a = s .args in
-    let q = c .before .before .put-columns in
-    omega (arith, s .pre .1, entry-size (a .n) (a .at) (a .columns) (a .out .now) (q .last .1 .1 .1 .0) (s .pre .1) (q .ensures))
+    let q = c .before .before .put-first in
+    omega (arith, s .pre .1, entry-size (a .n) (a .at) (a .columns) (a .out .now) (q .last .1 .1 .1 .0) (s .pre .1) (search needs) (q .ensures))
 
 add-put-counts : tie.Need-add-put-counts
 add-put-counts c = search needs
@@ -55,27 +55,27 @@ put-counts-requires : tie.Need-put-counts-requires
 put-counts-requires c κs =
     let s = c .before .before .before .before .before .before in
     let a = s .args in
-    let q = c .before .before .before .put-columns in
+    let q = c .before .before .before .put-first in
     let w = q .last .1 .1 .1 .0 in
-    (s .pre .0, omega (arith, s .pre .1, length-set w (a .at + 1 + a .n) (64 + a .n), entry-size (a .n) (a .at) (a .columns) (a .out .now) w (s .pre .1) (q .ensures)))
+    (s .pre .0, omega (arith, s .pre .1, length-set w (a .at + 1 + a .n) (64 + a .n), entry-size (a .n) (a .at) (a .columns) (a .out .now) w (s .pre .1) (search needs) (q .ensures)))
 
 same-length : tie.Need-same-length
 same-length c =
     let s = c .before .before .before .before .before .before .before .before .before in
     let a = s .args in
     let long = entry-bytes (a .n) (a .columns) (a .counts) in
-    let first = c .before .before .before .before .before .before .put-columns in
+    let first = c .before .before .before .before .before .before .put-first in
     let second = c .before .before .put-counts in
-    let whole = entry-put (a .n) (a .at) (a .columns) (a .counts) (a .out .now) (first .last .1 .1 .1 .0) (second .last .1 .1 .1 .0) (s .pre .1) (first .ensures) (second .ensures .0) in
+    let whole = entry-put (a .n) (a .at) (a .columns) (a .counts) (a .out .now) (first .last .1 .1 .1 .0) (second .last .1 .1 .1 .0) (s .pre .1) (search needs) (first .ensures) (second .ensures .0) in
     ap length whole ∙ over-length (a .at) (entryRecords (a .n) (a .columns) (a .counts)) (a .out .now) (omega (arith, s .pre .1, long))
 
 returns : tie.Need-returns
 returns c =
     let s = c .before .before .before .before .before .before .before .before .before in
     let a = s .args in
-    let first = c .before .before .before .before .before .before .put-columns in
+    let first = c .before .before .before .before .before .before .put-first in
     let second = c .before .before .put-counts in
-    let whole = entry-put (a .n) (a .at) (a .columns) (a .counts) (a .out .now) (first .last .1 .1 .1 .0) (second .last .1 .1 .1 .0) (s .pre .1) (first .ensures) (second .ensures .0) in
+    let whole = entry-put (a .n) (a .at) (a .columns) (a .counts) (a .out .now) (first .last .1 .1 .1 .0) (second .last .1 .1 .1 .0) (s .pre .1) (search needs) (first .ensures) (second .ensures .0) in
     (whole, omega (arith, c .before .before .put-counts .ensures .1))
 
 pub put-entry-spec : {M : Type 1} → statement M
@@ -85,8 +85,8 @@ put-entry-spec =
     add-out
     cast-out
     slice-write-out
-    add-put-columns
-    put-columns-requires
+    add-put-first
+    put-first-requires
     add-next
     add-next-2
     add-out-2

@@ -359,17 +359,17 @@ module _ {M : Type 1} (𝓤 : URA M) (H : Heap 𝓤) (A : Atoms 𝓤) (W : Given
           keep ! (0 ∷ 1 ∷ 2 ∷ 3 ∷ 4 ∷ 5 ∷ 7 ∷ 8 ∷ 9 ∷ 10 ∷ 11 ∷ 12 ∷ 13 ∷ 14 ∷ 15 ∷ 16 ∷ 17 ∷ 18 ∷ 19 ∷ 20 ∷ 21 ∷ 22 ∷ 23 ∷ 24 ∷ 25 ∷ 26 ∷ 27 ∷ 28 ∷ 29 ∷ 30 ∷ 31 ∷ 32 ∷ 33 ∷ 34 ∷ 35 ∷ 36 ∷ 37 ∷ 38 ∷ 39 ∷ 40 ∷ 41 ∷ 42 ∷ 43 ∷ 44 ∷ 6 ∷ []) $
           by ! (looped u (ws .1 .1 .1 .1 .1 .0) same (subst (λ (z : Val). Is R.the-row u (z ∷ [])) (ap only (LL.tells R.the-type R′.the-laws u (v ∷ []) is-u)) is-u) (progress-start low e))))))))))
 
-      abbrev Before : List (Item 𝓤)
-      Before = ‵ (froom tmp l₁₈ 0) ∷ ‵ (fdies tmp l₁₈) ∷ ‵ (froom ref l₁₇ 0) ∷ ‵ (fdies ref l₁₇) ∷ ‵ (froom T′.mir l₁₆ 0) ∷ ‵ (fdies T′.mir l₁₆) ∷ ‵ (froom tyPtr l₁₅ 0) ∷ ‵ (fdies tyPtr l₁₅)
+      abbrev Opening : List (Item 𝓤)
+      Opening = ‵ (froom tmp l₁₈ 0) ∷ ‵ (fdies tmp l₁₈) ∷ ‵ (froom ref l₁₇ 0) ∷ ‵ (fdies ref l₁₇) ∷ ‵ (froom T′.mir l₁₆ 0) ∷ ‵ (fdies T′.mir l₁₆) ∷ ‵ (froom tyPtr l₁₅ 0) ∷ ‵ (fdies tyPtr l₁₅)
           ∷ ‵ (froom tyBool l₁₄ 0) ∷ ‵ (fdies tyBool l₁₄) ∷ ‵ (froom word l₁₃ 0) ∷ ‵ (fdies word l₁₃) ∷ ‵ (froom tmp l₁₂ 0) ∷ ‵ (fdies tmp l₁₂) ∷ ‵ (froom ref l₁₁ 0) ∷ ‵ (fdies ref l₁₁)
           ∷ ‵ (froom word l₁₀ 0) ∷ ‵ (fdies word l₁₀) ∷ ‵ (froom T′.mir l₉ 0) ∷ ‵ (fdies T′.mir l₉) ∷ ‵ (froom word l₈ 0) ∷ ‵ (fdies word l₈) ∷ ‵ (froom R′.mir l₇ 0) ∷ ‵ (fdies R′.mir l₇)
           ∷ ‵ (froom byte l₆ 0) ∷ ‵ (fdies byte l₆) ∷ ‵ (fat fullShare oslice l₅ 0 t) ∷ ‵ (fdies oslice l₅) ∷ ‵ (fat fullShare dslice l₄ 0 s) ∷ ‵ (fdies dslice l₄) ∷ ‵ (fat fullShare word l₃ 0 (vint w64 r)) ∷ ‵ (fdies word l₃)
           ∷ ‵ (fat fullShare word l₂ 0 (vint w64 g)) ∷ ‵ (fdies word l₂) ∷ ‵ (fat fullShare word l₁ 0 (vint w64 w)) ∷ ‵ (fdies word l₁) ∷ ‵ (froom R′.mir l₀ 0) ∷ ‵ (fdies R′.mir l₀)
           ∷ (‵ (flft κ₁ q₁) ⊛ (‵ (flft κ₂ q₂) ⊛ ‵ ftrue)) ∷ ‵ (owns (usize ∷ usize ∷ usize ∷ ShrSlice (named 0) κ₁ T.the-row ∷ MutSlice (named 1) κ₂ u8 ∷ []) a at) ∷ []
 
-      begins : ent 𝓤 (⋆ 𝓤 H A Before) (Wp 𝓤 H (𝓣 .C) (𝓣 .Λ) E m.t-1 (atReturn 𝓤 H E Post))
+      begins : ent 𝓤 (⋆ 𝓤 H A Opening) (Wp 𝓤 H (𝓣 .C) (𝓣 .Λ) E m.t-1 (atReturn 𝓤 H E Post))
       begins =
-          qed W Before ∵ exec ! (𝓣 .C) (𝓣 .Λ) E m.t-1 (atRet E Post) $
+          qed W Opening ∵ exec ! (𝓣 .C) (𝓣 .Λ) E m.t-1 (atRet E Post) $
           -- what the slice of records owns is had three times: for the call, for the exit, and of the third the fractured borrow; the borrow of the bytes is opened
           move ! (39 ∷ []) $ fsplit ! $ drop ! $ fsplit ! $ drop ! $ fsplit ! $ drop ! $ fsplit ! $
           use1 W (‵ Own ⊛ ‵ Own) (shr-slice-copy 𝓤 H A W (named 0) κ₁ T.the-row .twice x (s ∷ [])) $ split ! $ use1 W (‵ Own ⊛ ‵ Own) (shr-slice-copy 𝓤 H A W (named 0) κ₁ T.the-row .twice x (s ∷ [])) $ split ! $
@@ -397,7 +397,7 @@ module _ {M : Type 1} (𝓤 : URA M) (H : Heap 𝓤) (A : Atoms 𝓤) (W : Given
     }
 
     enters : (𝓣 : Tables 𝓤 H) (judged : Triple 𝓤 (𝓣 .C #plan-lists·records-refusal) (Ref 𝓤 H A mem′ run)) (begun : Triple 𝓤 (𝓣 .C #book·begin) (Beg 𝓤 H A mem′ run)) (known : Triple 𝓤 (𝓣 .C #book·add) (Add 𝓤 H A mem′ run)) (body : Body) (Kf : Val → SProp 𝓤)
-        → ((l₀ l₁ l₂ l₃ l₄ l₅ l₆ l₇ l₈ l₉ l₁₀ l₁₁ l₁₂ l₁₃ l₁₄ l₁₅ l₁₆ l₁₇ l₁₈ : ℕ) → ent 𝓤 (⋆ 𝓤 H A (Before 𝓣 judged begun known l₀ l₁ l₂ l₃ l₄ l₅ l₆ l₇ l₈ l₉ l₁₀ l₁₁ l₁₂ l₁₃ l₁₄ l₁₅ l₁₆ l₁₇ l₁₈)) (Wp 𝓤 H (𝓣 .C) (𝓣 .Λ) (E 𝓣 judged begun known l₀ l₁ l₂ l₃ l₄ l₅ l₆ l₇ l₈ l₉ l₁₀ l₁₁ l₁₂ l₁₃ l₁₄ l₁₅ l₁₆ l₁₇ l₁₈) body (atReturn 𝓤 H (E 𝓣 judged begun known l₀ l₁ l₂ l₃ l₄ l₅ l₆ l₇ l₈ l₉ l₁₀ l₁₁ l₁₂ l₁₃ l₁₄ l₁₅ l₁₆ l₁₇ l₁₈) Kf)))
+        → ((l₀ l₁ l₂ l₃ l₄ l₅ l₆ l₇ l₈ l₉ l₁₀ l₁₁ l₁₂ l₁₃ l₁₄ l₁₅ l₁₆ l₁₇ l₁₈ : ℕ) → ent 𝓤 (⋆ 𝓤 H A (Opening 𝓣 judged begun known l₀ l₁ l₂ l₃ l₄ l₅ l₆ l₇ l₈ l₉ l₁₀ l₁₁ l₁₂ l₁₃ l₁₄ l₁₅ l₁₆ l₁₇ l₁₈)) (Wp 𝓤 H (𝓣 .C) (𝓣 .Λ) (E 𝓣 judged begun known l₀ l₁ l₂ l₃ l₄ l₅ l₆ l₇ l₈ l₉ l₁₀ l₁₁ l₁₂ l₁₃ l₁₄ l₁₅ l₁₆ l₁₇ l₁₈) body (atReturn 𝓤 H (E 𝓣 judged begun known l₀ l₁ l₂ l₃ l₄ l₅ l₆ l₇ l₈ l₉ l₁₀ l₁₁ l₁₂ l₁₃ l₁₄ l₁₅ l₁₆ l₁₇ l₁₈) Kf)))
         → ent 𝓤 (onEntry 𝓤 H A f.signature (κ₁, (κ₂, tt)) (q₁, (q₂, tt)) a at) (WpFn 𝓤 H (𝓣 .C) (𝓣 .Λ) (shell body) (vint w64 w ∷ vint w64 g ∷ vint w64 r ∷ s ∷ t ∷ []) Kf)
     enters 𝓣 judged begun known body Kf c =
         qed W ((‵ (flft κ₁ q₁) ⊛ (‵ (flft κ₂ q₂) ⊛ ‵ ftrue)) ∷ ‵ (owns (usize ∷ usize ∷ usize ∷ ShrSlice (named 0) κ₁ T.the-row ∷ MutSlice (named 1) κ₂ u8 ∷ []) a at) ∷ []) ∵

@@ -51,7 +51,7 @@ use Rattle.regular.specs.declared.Design.{Design}
 use Rattle.regular.specs.declared.CatalogueAnswer.{CatalogueAnswer}
 use Rattle.entries.specs.Tracing.{Followed}
 use Rattle.regular.specs.Designs.{blank, offset-fits}
-use Rattle.catalogue.specs.declared.Listed.{Listed}
+use Rattle.catalogue.specs.declared.NextStop.{NextStop}
 use Rattle.catalogue.specs.declared.Stop.{Stop}
 use Rattle.regular.specs.Catalogues.{ListsDesigns}
 use Rattle.catalogue.specs.Turns.{Going}
@@ -61,8 +61,8 @@ use Rattle.regular.proofs.Design as T
 use Rattle.regular.proofs.Design.Laws as T′
 use Rattle.catalogue.proofs.Stop as P
 use Rattle.catalogue.proofs.Stop.Laws as P′
-use Rattle.catalogue.proofs.Listed as S
-use Rattle.catalogue.proofs.Listed.Laws as S′
+use Rattle.catalogue.proofs.NextStop as S
+use Rattle.catalogue.proofs.NextStop.Laws as S′
 use Rattle.regular.proofs.CatalogueAnswer as R
 use Rattle.regular.proofs.CatalogueAnswer.Laws as R′
 use Rattle.catalogue.proofs.begin as beg
@@ -96,13 +96,13 @@ module _ {M : Type 1} (𝓤 : URA M) (H : Heap 𝓤) (A : Atoms 𝓤) (mem : Mem
   abbrev Stp : Contract 𝓤
   Stp = tripleOf 𝓤 H A stp.signature (stp.spec 𝓤 H A mem run)
 
-  abbrev Begins : Stop → Type 0
-  Begins d = (d .design ≡ blank) × Followed 0 [] (d .trail)
+  abbrev FirstStop : Stop → Type 0
+  FirstStop d = (d .design ≡ blank) × Followed 0 [] (d .trail)
 
-  beg-of : (d : Stop) → ent 𝓤 (ensured 𝓤 H A beg.ended (beg.clauses 𝓤 H A mem run) tt tt tt d) (fact 𝓤 (Begins d))
-  beg-of d = exE 𝓤 _ (λ ws. snd∗ 𝓤 (sem 𝓤 H A (lasts beg.ended tt tt ws)) (fact 𝓤 (Begins d)))
+  beg-of : (d : Stop) → ent 𝓤 (ensured 𝓤 H A beg.ended (beg.clauses 𝓤 H A mem run) tt tt tt d) (fact 𝓤 (FirstStop d))
+  beg-of d = exE 𝓤 _ (λ ws. snd∗ 𝓤 (sem 𝓤 H A (lasts beg.ended tt tt ws)) (fact 𝓤 (FirstStop d)))
 
-  stp-of : (w g r i n : ℕ) (c : Stop) (u : Listed) → ent 𝓤 (ensured 𝓤 H A stp.ended (stp.clauses 𝓤 H A mem run) tt (w, (g, (r, (i, (n, (c, tt)))))) tt u) (fact 𝓤 (Stepped w g r i n c u))
+  stp-of : (w g r i n : ℕ) (c : Stop) (u : NextStop) → ent 𝓤 (ensured 𝓤 H A stp.ended (stp.clauses 𝓤 H A mem run) tt (w, (g, (r, (i, (n, (c, tt)))))) tt u) (fact 𝓤 (Stepped w g r i n c u))
   stp-of w g r i n c u = exE 𝓤 _ (λ ws. snd∗ 𝓤 (sem 𝓤 H A (lasts stp.ended tt (w, (g, (r, (i, (n, (c, tt)))))) ws)) (fact 𝓤 (Stepped w g r i n c u)))
 
 module _ {M : Type 1} (𝓤 : URA M) (H : Heap 𝓤) (A : Atoms 𝓤) (W : Given 𝓤 H A) (mem : Memory → SProp 𝓤) (run : Routine → Fun 𝓤) (κ : Lft) (q : Share) (b o : ℕ) (γ : GName) (w g r : ℕ) (ys : List Design) where
@@ -183,7 +183,7 @@ module _ {M : Type 1} (𝓤 : URA M) (H : Heap 𝓤) (A : Atoms 𝓤) (W : Given
         owned ! usize (Is usize) (uint-makes 𝓤 H A W w64) w _ (refl, w-fits) $ fjoin ! $ nothing ! $ frame ! $ done !
 
     -- the state after a turn that found u
-    after : (t : State) (u : Listed) → Stepped w g r (t .0) n (t .1 .1 .0) u → Is P.the-row (u .stop) (held (u .stop) ∷ []) → T (u .found) → State
+    after : (t : State) (u : NextStop) → Stepped w g r (t .0) n (t .1 .1 .0) u → Is P.the-row (u .stop) (held (u .stop) ∷ []) → T (u .found) → State
     after (i, (zs, (c, (le, (len, (is, so)))))) u e is-u yes =
         let h = holds (u .found) yes in
         (i + 1, (set zs i (u .stop .design), (u .stop, (add-one-le (listing-room w g r ys zs i c so u e h), (length-set zs i (u .stop .design) ∙ len, (is-u, listing-more w g r ys zs i c so u e h))))))
@@ -220,7 +220,7 @@ module _ {M : Type 1} (𝓤 : URA M) (H : Heap 𝓤) (A : Atoms 𝓤) (W : Given
           owned ! P.the-row (Is P.the-row) (LL.makes P.the-type P′.the-plain 𝓤 H A) c (held c ∷ []) is $ use1 W (raw (Stp 𝓤 H A mem run .pre (to-stp c i))) (goes-stp c i (fits i le) (so .progress .going)) $
           calls-at ! (fmOf 𝓤 H (W .laws) 𝓣) (Stp 𝓤 H A mem run) known (to-stp c i)
           (and-then ! (load ! (from ! (stop !)) (look ! 25 refl)) (and-then ! (load ! (from ! (stop !)) (look ! 23 refl)) (and-then ! (load ! (from ! (stop !)) (look ! 21 refl)) (and-then ! (load ! (from ! (stop !)) (look ! 17 refl)) (and-then ! (load ! (from ! (stop !)) (look ! 11 refl)) (and-then ! (load ! (from ! (stop !)) (look ! 15 refl)) (no-more !))))))) (λ v.
-          use1 W (later (some (λ (u : Listed). (‵ ftrue ⊛ ‵ (S.the-row .own u (v ∷ []))) ⊛ raw (ensured 𝓤 H A stp.ended (stp.clauses 𝓤 H A mem run) tt (w, (g, (r, (i, (n, (c, tt)))))) tt u)))) (id⊢ 𝓤 _) $ await ! tt $ pick ! (λ u.
+          use1 W (later (some (λ (u : NextStop). (‵ ftrue ⊛ ‵ (S.the-row .own u (v ∷ []))) ⊛ raw (ensured 𝓤 H A stp.ended (stp.clauses 𝓤 H A mem run) tt (w, (g, (r, (i, (n, (c, tt)))))) tt u)))) (id⊢ 𝓤 _) $ await ! tt $ pick ! (λ u.
           split ! $ move ! (1 ∷ []) $ use1 W (raw (fact 𝓤 (Stepped w g r i n c u))) (stp-of 𝓤 H A mem run w g r i n c u) $ heard ! (Stepped w g r i n c u) (λ e. split ! $ drop ! $
           facts ! S.the-row (Is S.the-row) (shows 𝓤 H A S.the-row) u (v ∷ []) (λ is-u.
           land ! (from ! (stop !)) (init ! 12 refl (LL.lawful S.the-type S′.the-laws 𝓤 H A W .typed u _ is-u .0)) $
@@ -250,34 +250,34 @@ module _ {M : Type 1} (𝓤 : URA M) (H : Heap 𝓤) (A : Atoms 𝓤) (W : Given
           t : State
           t = (i, (zs, (c, (le, (len, (is, so))))))
 
-          iss : (u : Listed) {v : Val} → Is S.the-row u (v ∷ []) → Is P.the-row (u .stop) (held (u .stop) ∷ [])
+          iss : (u : NextStop) {v : Val} → Is S.the-row u (v ∷ []) → Is P.the-row (u .stop) (held (u .stop) ∷ [])
           iss u {v} p = LL.owed S.the-type S′.the-laws u (v ∷ []) p .1 .0
 
-          isd : (u : Listed) {v : Val} → Is S.the-row u (v ∷ []) → Is T.the-row (u .stop .design) (mach (u .stop .design) ∷ [])
+          isd : (u : NextStop) {v : Val} → Is S.the-row u (v ∷ []) → Is T.the-row (u .stop .design) (mach (u .stop .design) ∷ [])
           isd u {v} p = LL.owed P.the-type P′.the-laws (u .stop) (held (u .stop) ∷ []) (iss u p) .0
 
-          isa : (u : Listed) {v : Val} → Is S.the-row u (v ∷ []) → Is R.the-row (u .answer) (told (u .answer) ∷ [])
+          isa : (u : NextStop) {v : Val} → Is S.the-row u (v ∷ []) → Is R.the-row (u .answer) (told (u .answer) ∷ [])
           isa u {v} p = LL.owed S.the-type S′.the-laws u (v ∷ []) p .1 .1 .0
 
-          wts : (u : Listed) {v : Val} → Is S.the-row u (v ∷ []) → T (hasTy P′.mir (held (u .stop))) × WT (held (u .stop))
+          wts : (u : NextStop) {v : Val} → Is S.the-row u (v ∷ []) → T (hasTy P′.mir (held (u .stop))) × WT (held (u .stop))
           wts u {v} p = LL.lawful P.the-type P′.the-laws 𝓤 H A W .typed (u .stop) _ (iss u p) .0
 
-          wt : (u : Listed) {v : Val} → Is S.the-row u (v ∷ []) → T (hasTy T′.mir (mach (u .stop .design))) × WT (mach (u .stop .design))
+          wt : (u : NextStop) {v : Val} → Is S.the-row u (v ∷ []) → T (hasTy T′.mir (mach (u .stop .design))) × WT (mach (u .stop .design))
           wt u {v} p = LL.lawful T.the-type T′.the-laws 𝓤 H A W .typed (u .stop .design) _ (isd u p) .0
 
-          wta : (u : Listed) {v : Val} → Is S.the-row u (v ∷ []) → T (hasTy R′.mir (told (u .answer))) × WT (told (u .answer))
+          wta : (u : NextStop) {v : Val} → Is S.the-row u (v ∷ []) → T (hasTy R′.mir (told (u .answer))) × WT (told (u .answer))
           wta u {v} p = LL.lawful R.the-type R′.the-laws 𝓤 H A W .typed (u .answer) _ (isa u p) .0
 
-          inside : (u : Listed) → Stepped w g r i n c u → T (u .found) → i < n
+          inside : (u : NextStop) → Stepped w g r i n c u → T (u .found) → i < n
           inside u e h = listing-room w g r ys zs i c so u e (holds (u .found) h)
 
-          in-list : (u : Listed) → Stepped w g r i n c u → T (u .found) → i < length zs
+          in-list : (u : NextStop) → Stepped w g r i n c u → T (u .found) → i < length zs
           in-list u e h = subst (λ (k : ℕ). i < k) (sym len) (inside u e h)
 
-          place-fits : (u : Listed) → Stepped w g r i n c u → T (u .found) → i * 18 < 2 ^ 64
+          place-fits : (u : NextStop) → Stepped w g r i n c u → T (u .found) → i * 18 < 2 ^ 64
           place-fits u e h = offset-fits i n (inside u e h) (room .1)
 
-          next-fits : (u : Listed) → Stepped w g r i n c u → T (u .found) → i + 1 < 2 ^ 64
+          next-fits : (u : NextStop) → Stepped w g r i n c u → T (u .found) → i + 1 < 2 ^ 64
           next-fits u e h = fits (i + 1) (add-one-le (inside u e h))
 
     start : (d : Stop) → Is P.the-row d (held d ∷ []) → Followed 0 [] (d .trail) → State
@@ -292,21 +292,21 @@ module _ {M : Type 1} (𝓤 : URA M) (H : Heap 𝓤) (A : Atoms 𝓤) (W : Given
 
     -- the body, up to the loop: the first record is called for, and the borrow is opened once
     module _ (𝓣 : Tables 𝓤 H) (begun : Triple 𝓤 (𝓣 .C #catalogue·begin) (Beg 𝓤 H A mem run)) (known : Triple 𝓤 (𝓣 .C #catalogue·step) (Stp 𝓤 H A mem run)) (l₀ l₁ l₂ l₃ l₄ l₅ l₆ l₇ l₈ l₉ l₁₀ l₁₁ : ℕ) where
-      abbrev Before : List (Item 𝓤)
-      Before = ‵ (froom tyPtr l₁₁ 0) ∷ ‵ (fdies tyPtr l₁₁) ∷ ‵ (froom word l₁₀ 0) ∷ ‵ (fdies word l₁₀) ∷ ‵ (froom tyBool l₉ 0) ∷ ‵ (fdies tyBool l₉) ∷ ‵ (froom word l₈ 0) ∷ ‵ (fdies word l₈) ∷ ‵ (froom S′.mir l₇ 0) ∷ ‵ (fdies S′.mir l₇)
+      abbrev Opening : List (Item 𝓤)
+      Opening = ‵ (froom tyPtr l₁₁ 0) ∷ ‵ (fdies tyPtr l₁₁) ∷ ‵ (froom word l₁₀ 0) ∷ ‵ (fdies word l₁₀) ∷ ‵ (froom tyBool l₉ 0) ∷ ‵ (fdies tyBool l₉) ∷ ‵ (froom word l₈ 0) ∷ ‵ (fdies word l₈) ∷ ‵ (froom S′.mir l₇ 0) ∷ ‵ (fdies S′.mir l₇)
           ∷ ‵ (froom P′.mir l₆ 0) ∷ ‵ (fdies P′.mir l₆) ∷ ‵ (froom word l₅ 0) ∷ ‵ (fdies word l₅)
           ∷ ‵ (fat fullShare slice l₄ 0 s) ∷ ‵ (fdies slice l₄) ∷ ‵ (fat fullShare word l₃ 0 (vint w64 r)) ∷ ‵ (fdies word l₃) ∷ ‵ (fat fullShare word l₂ 0 (vint w64 g)) ∷ ‵ (fdies word l₂) ∷ ‵ (fat fullShare word l₁ 0 (vint w64 w)) ∷ ‵ (fdies word l₁)
           ∷ ‵ (froom R′.mir l₀ 0) ∷ ‵ (fdies R′.mir l₀)
           ∷ (‵ (flft κ q) ⊛ ‵ ftrue) ∷ ‵ (owns (usize ∷ usize ∷ usize ∷ MutSlice (named 0) κ T.the-row ∷ []) a at) ∷ []
 
-      begins : ent 𝓤 (⋆ 𝓤 H A Before) (Wp 𝓤 H (𝓣 .C) (𝓣 .Λ) (En 𝓣 known l₀ l₁ l₂ l₃ l₄ l₅ l₆ l₇ l₈ l₉ l₁₀ l₁₁) m.t-1 (atReturn 𝓤 H (En 𝓣 known l₀ l₁ l₂ l₃ l₄ l₅ l₆ l₇ l₈ l₉ l₁₀ l₁₁) Post))
+      begins : ent 𝓤 (⋆ 𝓤 H A Opening) (Wp 𝓤 H (𝓣 .C) (𝓣 .Λ) (En 𝓣 known l₀ l₁ l₂ l₃ l₄ l₅ l₆ l₇ l₈ l₉ l₁₀ l₁₁) m.t-1 (atReturn 𝓤 H (En 𝓣 known l₀ l₁ l₂ l₃ l₄ l₅ l₆ l₇ l₈ l₉ l₁₀ l₁₁) Post))
       begins =
-          qed W Before ∵ exec ! (𝓣 .C) (𝓣 .Λ) (En 𝓣 known l₀ l₁ l₂ l₃ l₄ l₅ l₆ l₇ l₈ l₉ l₁₀ l₁₁) m.t-1 (atRet (En 𝓣 known l₀ l₁ l₂ l₃ l₄ l₅ l₆ l₇ l₈ l₉ l₁₀ l₁₁) Post) $
+          qed W Opening ∵ exec ! (𝓣 .C) (𝓣 .Λ) (En 𝓣 known l₀ l₁ l₂ l₃ l₄ l₅ l₆ l₇ l₈ l₉ l₁₀ l₁₁) m.t-1 (atRet (En 𝓣 known l₀ l₁ l₂ l₃ l₄ l₅ l₆ l₇ l₈ l₉ l₁₀ l₁₁) Post) $
           assigns ! (of-opd ! (lit ! tt)) (from ! (stop !)) (init ! 12 refl (tt, record { fits = lit< tt })) $
           nothing ! $ use1 W (raw (Beg 𝓤 H A mem run .pre to-beg)) goes-beg $
           calls-at ! (fmOf 𝓤 H (W .laws) 𝓣) (Beg 𝓤 H A mem run) begun to-beg (no-more !) (λ v.
           use1 W (later (some (λ (d : Stop). (‵ ftrue ⊛ ‵ (P.the-row .own d (v ∷ []))) ⊛ raw (ensured 𝓤 H A beg.ended (beg.clauses 𝓤 H A mem run) tt tt tt d)))) (id⊢ 𝓤 _) $ await ! tt $ pick ! (λ d.
-          split ! $ move ! (1 ∷ []) $ use1 W (raw (fact 𝓤 (Begins 𝓤 H A mem run d))) (beg-of 𝓤 H A mem run d) $ heard ! (Begins 𝓤 H A mem run d) (λ fd. split ! $ drop ! $
+          split ! $ move ! (1 ∷ []) $ use1 W (raw (fact 𝓤 (FirstStop 𝓤 H A mem run d))) (beg-of 𝓤 H A mem run d) $ heard ! (FirstStop 𝓤 H A mem run d) (λ fd. split ! $ drop ! $
           facts ! P.the-row (Is P.the-row) (shows 𝓤 H A P.the-row) d (v ∷ []) (λ is-v.
           land ! (from ! (stop !)) (init ! 10 refl (LL.lawful P.the-type P′.the-laws 𝓤 H A W .typed d _ is-v .0)) $
           rewrite ! 10 (λ (y : Val). ‵ (fat fullShare P′.mir l₆ 0 y)) (ap only (LL.tells P.the-type P′.the-laws d (v ∷ []) is-v)) refl $
@@ -325,7 +325,7 @@ module _ {M : Type 1} (𝓤 : URA M) (H : Heap 𝓤) (A : Atoms 𝓤) (W : Given
     }
 
     enters : (𝓣 : Tables 𝓤 H) (begun : Triple 𝓤 (𝓣 .C #catalogue·begin) (Beg 𝓤 H A mem run)) (known : Triple 𝓤 (𝓣 .C #catalogue·step) (Stp 𝓤 H A mem run)) (body : Body) (Kf : Val → SProp 𝓤)
-        → ((l₀ l₁ l₂ l₃ l₄ l₅ l₆ l₇ l₈ l₉ l₁₀ l₁₁ : ℕ) → ent 𝓤 (⋆ 𝓤 H A (Before 𝓣 begun known l₀ l₁ l₂ l₃ l₄ l₅ l₆ l₇ l₈ l₉ l₁₀ l₁₁)) (Wp 𝓤 H (𝓣 .C) (𝓣 .Λ) (En 𝓣 known l₀ l₁ l₂ l₃ l₄ l₅ l₆ l₇ l₈ l₉ l₁₀ l₁₁) body (atReturn 𝓤 H (En 𝓣 known l₀ l₁ l₂ l₃ l₄ l₅ l₆ l₇ l₈ l₉ l₁₀ l₁₁) Kf)))
+        → ((l₀ l₁ l₂ l₃ l₄ l₅ l₆ l₇ l₈ l₉ l₁₀ l₁₁ : ℕ) → ent 𝓤 (⋆ 𝓤 H A (Opening 𝓣 begun known l₀ l₁ l₂ l₃ l₄ l₅ l₆ l₇ l₈ l₉ l₁₀ l₁₁)) (Wp 𝓤 H (𝓣 .C) (𝓣 .Λ) (En 𝓣 known l₀ l₁ l₂ l₃ l₄ l₅ l₆ l₇ l₈ l₉ l₁₀ l₁₁) body (atReturn 𝓤 H (En 𝓣 known l₀ l₁ l₂ l₃ l₄ l₅ l₆ l₇ l₈ l₉ l₁₀ l₁₁) Kf)))
         → ent 𝓤 (onEntry 𝓤 H A f.signature (κ, tt) (q, tt) a at) (WpFn 𝓤 H (𝓣 .C) (𝓣 .Λ) (shell body) (vint w64 w ∷ vint w64 g ∷ vint w64 r ∷ s ∷ []) Kf)
     enters 𝓣 begun known body Kf k =
         qed W ((‵ (flft κ q) ⊛ ‵ ftrue) ∷ ‵ (owns (usize ∷ usize ∷ usize ∷ MutSlice (named 0) κ T.the-row ∷ []) a at) ∷ []) ∵ enter ! (𝓣 .C) (𝓣 .Λ) (shell body) (vint w64 w ∷ vint w64 g ∷ vint w64 r ∷ s ∷ []) Kf $

@@ -33,8 +33,8 @@ same-length c = c .before .before .before .loop .inv .size
 returns : tie.Need-returns Inv-loop μ-loop
 returns c = let x = c .before .before .before .loop .inv in filling-stops _ _ _ _ _ _ _ _ _ x _ (x .size) _ (c .before .before .advance .ensures .stops (not-true _ (c .if1 .taken)))
 
-put-requires : tie.Need-put-requires Inv-loop μ-loop
-put-requires c κs =
+put-first-requires : tie.Need-put-first-requires Inv-loop μ-loop
+put-first-requires c κs =
     let x = c .before .before .before .before .before .loop .inv in
     let t = c .before .before .before .before .advance .ensures .goes (not-false _ (c .before .before .if1 .left)) in
     (t .sized .size .most, omega (arith, filling-room _ _ _ _ _ _ _ _ _ x _ (x .size) _ _ t, x .size))
@@ -63,7 +63,7 @@ loop-again : tie.Need-loop-again Inv-loop μ-loop
 loop-again c =
     let x = c .before .before .before .before .before .before .before .before .before .loop .inv in
     let t = c .before .before .before .before .before .before .before .before .advance .ensures .goes (not-false _ (c .before .before .before .before .before .before .if1 .left)) in
-    filling-more _ _ _ _ _ _ _ _ _ x _ (x .size) _ _ _ t (c .before .before .before .put .ensures)
+    filling-more _ _ _ _ _ _ _ _ _ x _ (x .size) _ _ _ t (search needs) (c .before .before .before .put-first .ensures)
 
 pub list-catalogue-spec : {M : Type 1} → statement M
 list-catalogue-spec =
@@ -77,7 +77,7 @@ list-catalogue-spec =
     advance-requires
     same-length
     returns
-    put-requires
+    put-first-requires
     add-base
     add-count
     loop-less

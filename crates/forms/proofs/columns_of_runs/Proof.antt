@@ -12,7 +12,7 @@ admit-runs-requires : tie.Need-admit-runs-requires
 admit-runs-requires c κs = search needs
 
 lend-columns-requires : tie.Need-lend-columns-requires
-lend-columns-requires c κs = search needs
+lend-columns-requires c κs = λ e. c .before .admit-runs .ensures .size e .most
 
 same-length : tie.Need-same-length
 same-length c = search needs
@@ -22,7 +22,7 @@ returns c =
     let a = c .before .before .before .before .before .before .before .args in
     let q = c .before .before .before .before .admit-runs in
     let l = c .before .before .lend-columns in
-    columns-fills (runsFaults (a .n) (a .g) (a .runs .now)) (a .n) (a .g) (switched (getD (a .runs .now) 0 0) (runsOf (a .runs .now))) (q .result .number) (q .result .columns) (q .ensures) (runs-faults-most (a .n) (a .g) (a .runs .now)) (a .out .now) (l .last .1 .1 .1 .0) (l .result) (l .ensures)
+    columns-fills (runsFaults (a .n) (a .g) (a .runs .now)) (a .n) (a .g) (switched (getD (a .runs .now) 0 0) (runsOf (a .runs .now))) (q .result .number) (q .result .columns) (q .ensures) (runs-faults-most (a .n) (a .g) (a .runs .now)) (a .out .now) (l .last .1 .1 .0) (l .result) (l .ensures)
 
 pub columns-of-runs-spec : {M : Type 1} → statement M
 columns-of-runs-spec =

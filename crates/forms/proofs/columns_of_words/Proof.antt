@@ -11,7 +11,7 @@ admit-words-requires : tie.Need-admit-words-requires
 admit-words-requires c κs = search needs
 
 lend-columns-requires : tie.Need-lend-columns-requires
-lend-columns-requires c κs = search needs
+lend-columns-requires c κs = λ e. c .before .admit-words .ensures .size e .most
 
 same-length : tie.Need-same-length
 same-length c = search needs
@@ -21,7 +21,7 @@ returns c =
     let a = c .before .before .before .before .before .before .before .args in
     let q = c .before .before .before .before .admit-words in
     let l = c .before .before .lend-columns in
-    columns-fills (wordsFaults (a .n) (a .g) (a .words .now)) (a .n) (a .g) (Generated (a .n) (a .g) (a .words .now)) (q .result .number) (q .result .columns) (q .ensures) (words-faults-most (a .n) (a .g) (a .words .now)) (a .out .now) (l .last .1 .1 .1 .0) (l .result) (l .ensures)
+    columns-fills (wordsFaults (a .n) (a .g) (a .words .now)) (a .n) (a .g) (Generated (a .n) (a .g) (a .words .now)) (q .result .number) (q .result .columns) (q .ensures) (words-faults-most (a .n) (a .g) (a .words .now)) (a .out .now) (l .last .1 .1 .0) (l .result) (l .ensures)
 
 pub columns-of-words-spec : {M : Type 1} → statement M
 columns-of-words-spec =

@@ -17,7 +17,7 @@ lend-first-requires : tie.Need-lend-first-requires
 lend-first-requires c κs =
     let p = c .before .before .before .before .pre in
     let t = c .before .before .if1 .left in
-    p t .most
+    p t
 
 same-length : tie.Need-same-length
 same-length c = search needs

@@ -3,7 +3,7 @@ use Prim.Native.Nat.{_-_}
 use native.Mathlib.Omega.{arith}
 use borrow.Author.Needs.{needs}
 use lib.Pow.{pow-mono}
-use Rattle.measures.specs.Ready.{runs-distances, runs-within}
+use Rattle.measures.specs.Ready.{runs-distances}
 use Rattle.measures.proofs.distances.Statement.{statement}
 use Rattle.measures.proofs.distances.Tie as tie
 
@@ -20,9 +20,7 @@ distances-of-requires : tie.Need-distances-of-requires
 distances-of-requires c κs =
     let s = c .before .before in
     let a = s .args in
-    let z = s .pre .size in
-    let e = c .power .ensures .0 in
-    (omega (arith, z .most), omega (arith, e, pow-mono {i = a .n - a .g} {j = 7} (z .few)), λ j h. runs-within (s .pre) (c .before .run-table .ensures) j (omega (arith, e)))
+    omega (arith, c .power .ensures .0, pow-mono {i = a .n - a .g} {j = 7} (s .pre .size .few))
 
 returns : tie.Need-returns
 returns c =

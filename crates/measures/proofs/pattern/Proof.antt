@@ -1,7 +1,6 @@
 -- `measures::pattern` meets its contract: the reduced words generate all words, and there are few enough of them. Assumes nothing.
-use native.Mathlib.Omega.{arith}
 use borrow.Author.Needs.{needs}
-use Rattle.measures.specs.Ready.{words-pattern, few-generators, words-within}
+use Rattle.measures.specs.Ready.{words-pattern, few-generators}
 use Rattle.measures.proofs.pattern.Statement.{statement}
 use Rattle.measures.proofs.pattern.Tie as tie
 
@@ -9,10 +8,7 @@ generators-requires : tie.Need-generators-requires
 generators-requires c κs = search needs
 
 pattern-of-requires : tie.Need-pattern-of-requires
-pattern-of-requires c κs =
-    let w = c .generators .ensures in
-    let z = c .before .pre .size in
-    (omega (arith, z .most), few-generators (c .before .pre), words-within (c .before .pre) w)
+pattern-of-requires c κs = (c .before .pre .size .most, few-generators (c .before .pre))
 
 returns : tie.Need-returns
 returns c =

@@ -1,4 +1,4 @@
--- `patterns::distances_of` meets its contract: a run of n factors has at most n low levels. Assumes nothing.
+-- `patterns::distances_of` meets its contract: the runs' letters are counted. Assumes nothing.
 use Rattle.patterns.proofs.Laws.{distance-model}
 use borrow.Author.Needs.{needs}
 use Rattle.patterns.proofs.distances_of.Statement.{statement}
@@ -11,7 +11,7 @@ letter-counts-requires : tie.Need-letter-counts-requires
 letter-counts-requires c κs = search needs
 
 returns : tie.Need-returns
-returns c = let s = c .before .before in distance-model _ _ _ _ (s .pre .0) (s .pre .2) (c .letter-counts .ensures)
+returns c = distance-model _ _ _ (c .letter-counts .ensures)
 
 pub distances-of-spec : {M : Type 1} → statement M
 distances-of-spec =

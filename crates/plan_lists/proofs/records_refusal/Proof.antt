@@ -254,15 +254,15 @@ module _ {M : Type 1} (𝓤 : URA M) (H : Heap 𝓤) (A : Atoms 𝓤) (W : Given
           qed W (At 𝓣 known l₀ l₁ l₂ l₃ l₄ l₅ l₆ l₇ l₈ l₉ l₁₀ l₁₁ (start t t-fits z)) ∵ exec ! (𝓣 .C) (𝓣 .Λ) E m.t-3 (atRet E Post) $
           first ! $ blocks ! $ loops ! 𝓣 Nearer Nearer-wf (At 𝓣 known l₀ l₁ l₂ l₃ l₄ l₅ l₆ l₇ l₈ l₉ l₁₀ l₁₁) (turns 𝓣 known l₀ l₁ l₂ l₃ l₄ l₅ l₆ l₇ l₈ l₉ l₁₀ l₁₁) (start t t-fits z)
 
-      abbrev Before : List (Item 𝓤)
-      Before = ‵ (froom T′.mir l₁₁ 0) ∷ ‵ (fdies T′.mir l₁₁) ∷ ‵ (froom tyPtr l₁₀ 0) ∷ ‵ (fdies tyPtr l₁₀) ∷ ‵ (froom tyBool l₉ 0) ∷ ‵ (fdies tyBool l₉) ∷ ‵ (froom word l₈ 0) ∷ ‵ (fdies word l₈) ∷ ‵ (froom T′.mir l₇ 0) ∷ ‵ (fdies T′.mir l₇)
+      abbrev Opening : List (Item 𝓤)
+      Opening = ‵ (froom T′.mir l₁₁ 0) ∷ ‵ (fdies T′.mir l₁₁) ∷ ‵ (froom tyPtr l₁₀ 0) ∷ ‵ (fdies tyPtr l₁₀) ∷ ‵ (froom tyBool l₉ 0) ∷ ‵ (fdies tyBool l₉) ∷ ‵ (froom word l₈ 0) ∷ ‵ (fdies word l₈) ∷ ‵ (froom T′.mir l₇ 0) ∷ ‵ (fdies T′.mir l₇)
           ∷ ‵ (froom byte l₆ 0) ∷ ‵ (fdies byte l₆) ∷ ‵ (froom word l₅ 0) ∷ ‵ (fdies word l₅) ∷ ‵ (fat fullShare slice l₄ 0 s) ∷ ‵ (fdies slice l₄)
           ∷ ‵ (fat fullShare word l₃ 0 (vint w64 r)) ∷ ‵ (fdies word l₃) ∷ ‵ (fat fullShare word l₂ 0 (vint w64 g)) ∷ ‵ (fdies word l₂) ∷ ‵ (fat fullShare word l₁ 0 (vint w64 w)) ∷ ‵ (fdies word l₁) ∷ ‵ (froom byte l₀ 0) ∷ ‵ (fdies byte l₀)
           ∷ (‵ (flft κ q) ⊛ ‵ ftrue) ∷ ‵ (owns (usize ∷ usize ∷ usize ∷ ShrSlice (named 0) κ T.the-row ∷ []) a at) ∷ []
 
-      begins : ent 𝓤 (⋆ 𝓤 H A Before) (Wp 𝓤 H (𝓣 .C) (𝓣 .Λ) E m.t-1 (atReturn 𝓤 H E Post))
+      begins : ent 𝓤 (⋆ 𝓤 H A Opening) (Wp 𝓤 H (𝓣 .C) (𝓣 .Λ) E m.t-1 (atReturn 𝓤 H E Post))
       begins =
-          qed W Before ∵ exec ! (𝓣 .C) (𝓣 .Λ) E m.t-1 (atRet E Post) $
+          qed W Opening ∵ exec ! (𝓣 .C) (𝓣 .Λ) E m.t-1 (atRet E Post) $
           assigns ! (of-opd ! (lit ! tt)) (from ! (stop !)) (init ! 12 refl (tt, record { fits = lit< tt })) $
           nothing ! $ use1 W (raw (Bnd 𝓤 H A mem run .pre to-bnd)) goes-bnd $
           calls-at ! (fmOf 𝓤 H (W .laws) 𝓣) (Bnd 𝓤 H A mem run) begun to-bnd (and-then ! (load ! (from ! (stop !)) (look ! 21 refl)) (and-then ! (load ! (from ! (stop !)) (look ! 19 refl)) (and-then ! (load ! (from ! (stop !)) (look ! 17 refl)) (no-more !)))) (λ v.
@@ -287,7 +287,7 @@ module _ {M : Type 1} (𝓤 : URA M) (H : Heap 𝓤) (A : Atoms 𝓤) (W : Given
     }
 
     enters : (𝓣 : Tables 𝓤 H) (begun : Triple 𝓤 (𝓣 .C #admission·bounds-number) (Bnd 𝓤 H A mem run)) (known : Triple 𝓤 (𝓣 .C #plan-lists·judge) (Jdg 𝓤 H A mem run)) (body : Body) (Kf : Val → SProp 𝓤)
-        → ((l₀ l₁ l₂ l₃ l₄ l₅ l₆ l₇ l₈ l₉ l₁₀ l₁₁ : ℕ) → ent 𝓤 (⋆ 𝓤 H A (Before 𝓣 begun known l₀ l₁ l₂ l₃ l₄ l₅ l₆ l₇ l₈ l₉ l₁₀ l₁₁)) (Wp 𝓤 H (𝓣 .C) (𝓣 .Λ) (E 𝓣 begun known l₀ l₁ l₂ l₃ l₄ l₅ l₆ l₇ l₈ l₉ l₁₀ l₁₁) body (atReturn 𝓤 H (E 𝓣 begun known l₀ l₁ l₂ l₃ l₄ l₅ l₆ l₇ l₈ l₉ l₁₀ l₁₁) Kf)))
+        → ((l₀ l₁ l₂ l₃ l₄ l₅ l₆ l₇ l₈ l₉ l₁₀ l₁₁ : ℕ) → ent 𝓤 (⋆ 𝓤 H A (Opening 𝓣 begun known l₀ l₁ l₂ l₃ l₄ l₅ l₆ l₇ l₈ l₉ l₁₀ l₁₁)) (Wp 𝓤 H (𝓣 .C) (𝓣 .Λ) (E 𝓣 begun known l₀ l₁ l₂ l₃ l₄ l₅ l₆ l₇ l₈ l₉ l₁₀ l₁₁) body (atReturn 𝓤 H (E 𝓣 begun known l₀ l₁ l₂ l₃ l₄ l₅ l₆ l₇ l₈ l₉ l₁₀ l₁₁) Kf)))
         → ent 𝓤 (onEntry 𝓤 H A f.signature (κ, tt) (q, tt) a at) (WpFn 𝓤 H (𝓣 .C) (𝓣 .Λ) (shell body) (vint w64 w ∷ vint w64 g ∷ vint w64 r ∷ s ∷ []) Kf)
     enters 𝓣 begun known body Kf k =
         qed W ((‵ (flft κ q) ⊛ ‵ ftrue) ∷ ‵ (owns (usize ∷ usize ∷ usize ∷ ShrSlice (named 0) κ T.the-row ∷ []) a at) ∷ []) ∵ enter ! (𝓣 .C) (𝓣 .Λ) (shell body) (vint w64 w ∷ vint w64 g ∷ vint w64 r ∷ s ∷ []) Kf $

@@ -8,11 +8,11 @@ returns : tie.Need-returns
 returns c =
     digit-past _ _ (c .if1 .taken)
 
-shared-slice-read-wide : tie.Need-shared-slice-read-wide
-shared-slice-read-wide c = search needs
+shared-slice-read-wide-byte : tie.Need-shared-slice-read-wide-byte
+shared-slice-read-wide-byte c = search needs
 
-wide-requires : tie.Need-wide-requires
-wide-requires c κs = search needs
+wide-byte-requires : tie.Need-wide-byte-requires
+wide-byte-requires c κs = search needs
 
 returns-2 : tie.Need-returns-2
 returns-2 c = search needs
@@ -25,4 +25,4 @@ returns-4 c = search needs
 
 pub digit-spec : {M : Type 1} → statement M
 digit-spec =
-    tie.close (tie.spec returns shared-slice-read-wide wide-requires returns-2 returns-3 returns-4)
+    tie.close (tie.spec returns shared-slice-read-wide-byte wide-byte-requires returns-2 returns-3 returns-4)

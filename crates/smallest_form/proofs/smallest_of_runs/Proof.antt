@@ -111,8 +111,8 @@ module _ {M : Type 1} (𝓤 : URA M) (H : Heap 𝓤) (A : Atoms 𝓤) (W : Given
   abbrev at : Vals f.signature (μ, (κ, (λ′, tt)))
   at = (vint w64 n ∷ [], (vint w64 g ∷ [], (s₀ ∷ [], (s ∷ [], (s′ ∷ [], tt)))))
 
-  abbrev Table : Fml
-  Table = ShrSlice (named 0) μ u16 .own w (s₀ ∷ [])
+  abbrev OwnTable : Fml
+  OwnTable = ShrSlice (named 0) μ u16 .own w (s₀ ∷ [])
 
   abbrev Own : Fml
   Own = ShrSlice (named 1) κ T.the-row .own x (s ∷ [])
@@ -138,17 +138,17 @@ module _ {M : Type 1} (𝓤 : URA M) (H : Heap 𝓤) (A : Atoms 𝓤) (W : Given
     abbrev to-form : ℕ → Form 𝓤 H A mem run .Ghost
     to-form k = (((μ, (λ′, tt)), (p₀, (q′, tt)), tt, (n, (g, (w, (k, (y, tt))))), (vint w64 n ∷ [], (vint w64 g ∷ [], (s₀ ∷ [], (vint w8 k ∷ [], (s′ ∷ [], tt)))))), tt)
 
-    goes-form : (k : ℕ) → k < 2 ^ 8 → ent 𝓤 (sep 𝓤 (sep 𝓤 (A .lft λ′ q′) (sem 𝓤 H A Lent)) (sep 𝓤 (A .lft μ p₀) (sem 𝓤 H A Table))) (Form 𝓤 H A mem run .pre (to-form k))
+    goes-form : (k : ℕ) → k < 2 ^ 8 → ent 𝓤 (sep 𝓤 (sep 𝓤 (A .lft λ′ q′) (sem 𝓤 H A Lent)) (sep 𝓤 (A .lft μ p₀) (sem 𝓤 H A OwnTable))) (Form 𝓤 H A mem run .pre (to-form k))
     goes-form k k-fits =
-        qed W ((‵ (flft λ′ q′) ⊛ ‵ Lent) ∷ (‵ (flft μ p₀) ⊛ ‵ Table) ∷ []) ∵ split ! $ move ! (2 ∷ []) $ split ! $
+        qed W ((‵ (flft λ′ q′) ⊛ ‵ Lent) ∷ (‵ (flft μ p₀) ⊛ ‵ OwnTable) ∷ []) ∵ split ! $ move ! (2 ∷ []) $ split ! $
         nothing ! $ move ! (4 ∷ 0 ∷ []) $ fjoin ! $ owned ! u8 (Is u8) (uint-makes 𝓤 H A W w8) k _ (refl, k-fits) $ fjoin ! $ move ! (2 ∷ 0 ∷ []) $ fjoin ! $
         owned ! usize (Is usize) (uint-makes 𝓤 H A W w64) g _ (refl, g-fits) $ fjoin ! $ owned ! usize (Is usize) (uint-makes 𝓤 H A W w64) n _ (refl, n-fits) $ fjoin ! $
         nothing ! $ move ! (3 ∷ 0 ∷ []) $ join ! $ move ! (2 ∷ 0 ∷ []) $ join ! $ join ! $ frame ! $ done !
 
     exits : (r : SmallestAnswer) (v : Val) (zs : List ℕ) → Is S.the-row r (v ∷ []) → Promised zs r → length zs ≡ length ys
-        → ent 𝓤 (⋆ 𝓤 H A (‵ (flft μ p₀) ∷ ‵ (flft κ q) ∷ ‵ (flft λ′ q′) ∷ ‵ (finally u8 γ′ zs) ∷ ‵ Own ∷ ‵ Table ∷ [])) (Post v)
+        → ent 𝓤 (⋆ 𝓤 H A (‵ (flft μ p₀) ∷ ‵ (flft κ q) ∷ ‵ (flft λ′ q′) ∷ ‵ (finally u8 γ′ zs) ∷ ‵ Own ∷ ‵ OwnTable ∷ [])) (Post v)
     exits r v zs is-r e len =
-        qed W (‵ (flft μ p₀) ∷ ‵ (flft κ q) ∷ ‵ (flft λ′ q′) ∷ ‵ (finally u8 γ′ zs) ∷ ‵ Own ∷ ‵ Table ∷ []) ∵
+        qed W (‵ (flft μ p₀) ∷ ‵ (flft κ q) ∷ ‵ (flft λ′ q′) ∷ ‵ (finally u8 γ′ zs) ∷ ‵ Own ∷ ‵ OwnTable ∷ []) ∵
         suffices ! _ (ends-at 𝓤 H A f.ended stayed (f.clauses 𝓤 H A mem run) W (((μ, (κ, (λ′, tt))), (p₀, (q, (q′, tt))), tt, a, at), tt) v r (tt, (tt, (tt, (tt, (zs, tt))))) (tt, (tt, (tt, (tt, (len, tt)))))) $ says ! e $
         nothing ! $ move ! (3 ∷ 0 ∷ []) $ join ! $ move ! (2 ∷ 0 ∷ []) $ join ! $ move ! (1 ∷ 0 ∷ []) $ join ! $ frame ! $
         nothing ! $ move ! (1 ∷ 0 ∷ []) $ fjoin ! $ move ! (1 ∷ 0 ∷ []) $ fjoin ! $ move ! (1 ∷ 0 ∷ []) $ fjoin ! $
@@ -166,7 +166,7 @@ module _ {M : Type 1} (𝓤 : URA M) (H : Heap 𝓤) (A : Atoms 𝓤) (W : Given
           pass1 ! (init ! 12 refl (tt, (tt, (record { fits = room .0 }, tt)))) $ pass1 ! (init ! 10 refl (tt, (tt, (record { fits = room′ .0 }, tt)))) $ pass0 ! $
           -- what the table owns is had twice, what the list owns three times
           move ! (23 ∷ []) $ fsplit ! $ toss ! $ fsplit ! $ toss ! $ fsplit ! $
-          use1 W (‵ Table ⊛ ‵ Table) (shr-slice-copy 𝓤 H A W (named 0) μ u16 .twice w (s₀ ∷ [])) $ split ! $ move ! (2 ∷ []) $ fsplit ! $
+          use1 W (‵ OwnTable ⊛ ‵ OwnTable) (shr-slice-copy 𝓤 H A W (named 0) μ u16 .twice w (s₀ ∷ [])) $ split ! $ move ! (2 ∷ []) $ fsplit ! $
           use1 W (‵ Own ⊛ ‵ Own) (shr-slice-copy 𝓤 H A W (named 1) κ T.the-row .twice x (s ∷ [])) $ split ! $
           use1 W (‵ Own ⊛ ‵ Own) (shr-slice-copy 𝓤 H A W (named 1) κ T.the-row .twice x (s ∷ [])) $ split ! $
           move ! (3 ∷ []) $ fsplit ! $ move ! (29 ∷ []) $ split ! $ move ! (1 ∷ []) $ split ! $ move ! (1 ∷ []) $ split ! $

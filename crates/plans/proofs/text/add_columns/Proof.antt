@@ -2,21 +2,21 @@
 use mathlib.Core.Path.{_≡_, ap}
 use Prim.Native.Nat.{ℕ, _+_, _*_, _≤_, _-_}
 use native.Mathlib.Omega.{arith}
-use lib.ListN.{length, take}
-use Rattle.plans.specs.Text.{Adds, spaced}
-use Rattle.plans.proofs.Adding.{numbers-none, adds-is, number-turn, take-more}
+use lib.ListN.{length}
+use Rattle.plans.specs.Text.{Adds, columnsText}
+use Rattle.plans.proofs.Adding.{columns-none, adds-is, column-turn}
 use borrow.Author.Needs.{needs}
 use Rattle.plans.proofs.text.add_columns.Statement.{statement}
 use Rattle.plans.proofs.text.add_columns.Tie as tie
 
 abbrev Inv-loop : tie.InvT-loop
-Inv-loop n at out₀ columns f₀ end₀ out f end = (n ≤ 16) × (f ≤ n) × (end ≤ at + 21 * f) × (at + 21 * n ≤ length out₀) × (16 ≡ length columns) × Adds out₀ out at (spaced (take f columns)) end
+Inv-loop n at out₀ columns f₀ end₀ out f end = (n ≤ 16) × (f ≤ n) × (end ≤ at + 21 * f) × (at + 21 * n ≤ length out₀) × (16 ≡ length columns) × Adds out₀ out at (columnsText f columns) end
 
 abbrev μ-loop : tie.MeasureT-loop
 μ-loop n at out₀ columns f₀ end₀ out f end = n - f
 
 loop-holds : tie.Need-loop-holds Inv-loop μ-loop
-loop-holds c = (c .before .pre .0, omega arith, omega arith, c .before .pre .1, search needs, numbers-none _ _)
+loop-holds c = (c .before .pre .0, omega arith, omega arith, c .before .pre .1, search needs, columns-none _ _ (c .before .args .t2))
 
 array-read-column : tie.Need-array-read-column Inv-loop μ-loop
 array-read-column c = search needs
@@ -41,7 +41,7 @@ loop-again c =
     let l = c .before .before .before .before .before .loop in
     let t = c .before .before .before .before .loop-test .taken in
     let h = c .before .before .add-next .ensures in
-    (l .inv .0, omega (arith, t), omega (arith, h .1, l .inv), l .inv .3, l .inv .4, number-turn _ _ _ (l .inv .5) (h .0) (take-more (a .t2) (l .f) (omega (arith, t, l .inv))))
+    (l .inv .0, omega (arith, t), omega (arith, h .1, l .inv), l .inv .3, l .inv .4, column-turn (a .t2) (l .f) (l .inv .5) (h .0))
 
 same-length : tie.Need-same-length Inv-loop μ-loop
 same-length c = search needs
@@ -50,7 +50,7 @@ returns : tie.Need-returns Inv-loop μ-loop
 returns c =
     let l = c .before .loop in
     let e : l .f ≡ c .before .before .before .args .n = omega (arith, l .inv, c .loop-test .left) in
-    (adds-is (ap (λ (k : ℕ). spaced (take k (c .before .before .before .args .t2))) e) (l .inv .5), omega (arith, l .inv))
+    (adds-is (ap (λ (k : ℕ). columnsText k (c .before .before .before .args .t2)) e) (l .inv .5), omega (arith, l .inv))
 
 pub add-columns-spec : {M : Type 1} → statement M
 add-columns-spec =

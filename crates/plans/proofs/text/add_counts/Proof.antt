@@ -1,23 +1,25 @@
 -- The counts that were passed are added, each within 21 bytes; below three letters there is none. The measure is the lengths that are left. Assumes nothing.
-use mathlib.Core.Path.{_≡_, refl, sym, ap}
+use mathlib.Core.Path.{_≡_, refl, ap}
 use mathlib.Core.Logic.{_⊎_, inl, inr, ⊎-elim}
 use Prim.Native.Nat.{_+_, _*_, _≤_, _-_}
 use native.Mathlib.Omega.{arith}
-use lib.ListN.{length, take, drop}
-use Rattle.plans.specs.Text.{Adds, spaced}
-use Rattle.plans.proofs.Adding.{numbers-none, adds-is, number-turn, third-more, third-none, third-all}
+use lib.ListN.{length}
+use Rattle.regular.specs.Book.{each}
+use Rattle.regular.specs.Pattern.{ofLength}
+use Rattle.plans.specs.Text.{Adds, next, countsText}
+use Rattle.plans.proofs.Adding.{counts-none, adds-is, count-turn}
 use borrow.Author.Needs.{needs}
 use Rattle.plans.proofs.text.add_counts.Statement.{statement}
 use Rattle.plans.proofs.text.add_counts.Tie as tie
 
 abbrev Inv-loop : tie.InvT-loop
-Inv-loop n at out₀ counts l₀ end₀ out l end = (n ≤ 16) × ((l ≤ n) ⊎ (l ≡ 2)) × (2 ≤ l) × (end ≤ at + 21 * (l - 2)) × (at + 21 * n ≤ length out₀) × (16 ≡ length counts) × Adds out₀ out at (spaced (drop 2 (take l counts))) end
+Inv-loop n at out₀ counts l₀ end₀ out l end = (n ≤ 16) × ((l ≤ n) ⊎ (l ≡ 2)) × (2 ≤ l) × (end ≤ at + 21 * (l - 2)) × (at + 21 * n ≤ length out₀) × (16 ≡ length counts) × Adds out₀ out at (countsText l counts) end
 
 abbrev μ-loop : tie.MeasureT-loop
 μ-loop n at out₀ counts l₀ end₀ out l end = n - l
 
 loop-holds : tie.Need-loop-holds Inv-loop μ-loop
-loop-holds c = (c .before .pre .0, inr refl, omega arith, omega arith, c .before .pre .1, search needs, adds-is (ap spaced (sym (third-none (c .before .args .t2) 2 (omega arith)))) (numbers-none _ _))
+loop-holds c = (c .before .pre .0, inr refl, omega arith, omega arith, c .before .pre .1, search needs, counts-none _ _ (c .before .args .t2))
 
 mul-count : tie.Need-mul-count Inv-loop μ-loop
 mul-count c = search needs
@@ -45,7 +47,7 @@ loop-again c =
     let l = c .before .before .before .before .before .loop in
     let t = c .before .before .before .before .loop-test .taken in
     let h = c .before .before .add-next .ensures in
-    (l .inv .0, inl (omega (arith, t)), omega (arith, l .inv .2), omega (arith, h .1, l .inv), l .inv .4, l .inv .5, number-turn _ _ _ (l .inv .6) (h .0) (third-more (a .t2) (l .l) (l .inv .2) (omega (arith, t, l .inv))))
+    (l .inv .0, inl (omega (arith, t)), omega (arith, l .inv .2), omega (arith, h .1, l .inv), l .inv .4, l .inv .5, count-turn (a .t2) (l .l) (l .inv .2) (l .inv .6) (h .0))
 
 same-length : tie.Need-same-length Inv-loop μ-loop
 same-length c = search needs
@@ -54,8 +56,8 @@ returns : tie.Need-returns Inv-loop μ-loop
 returns c =
     let l = c .before .loop in
     let a = c .before .before .before .args in
-    let e = third-all (a .t2) (a .n) (l .l) (omega (arith, c .loop-test .left)) (l .inv .1) in
-    (adds-is (ap spaced e) (l .inv .6), ⊎-elim (λ k. omega (arith, k, l .inv)) (λ k. omega (arith, k, l .inv)) (l .inv .1))
+    let e : l .l - 2 ≡ a .n - 2 = ⊎-elim (λ k. omega (arith, k, c .loop-test .left)) (λ k. omega (arith, k, c .loop-test .left)) (l .inv .1) in
+    (adds-is (ap (each (λ i. next (ofLength (a .t2) (3 + i)))) e) (l .inv .6), ⊎-elim (λ k. omega (arith, k, l .inv)) (λ k. omega (arith, k, l .inv)) (l .inv .1))
 
 pub add-counts-spec : {M : Type 1} → statement M
 add-counts-spec =
