@@ -5,7 +5,7 @@
 //! long each took.
 //! `calls` makes one call on a plan with a guarded result list, `compare` holds its outcome against the checking program; `pairs` and
 //! `compare_pairs` do so for the comparison of two plans, `forms` for the smallest form, `catalogues` for the catalogue, `books` for the book,
-//! `program` for what the program `plans` prints. `random` is a small generator with a seed, `samples` makes plans from it, good and
+//! `program` for what the program `plans` prints, `record_calls` for the calls that C cannot make and the program `records` makes. `random` is a small generator with a seed, `samples` makes plans from it, good and
 //! damaged, `known` and `hard` plans that are compared in pairs, and `published` reads the rows of document 000's Appendix B. `trial` makes
 //! any number of calls of every function. `recorded` writes calls as bytes, and `replay` makes them again, with lists in the `blocks` that
 //! `valgrind` watches.
@@ -27,6 +27,7 @@ pub mod pairs;
 pub mod program;
 pub mod published;
 pub mod random;
+pub mod record_calls;
 pub mod recorded;
 pub mod records;
 pub mod replay;

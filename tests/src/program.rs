@@ -18,15 +18,20 @@ pub const ROOM: usize = 1_024;
 /// What a line that gives no size is answered.
 pub const NOT_A_SIZE: &str = "not a size\n";
 
-/// The built program. Fails where there is none.
-pub fn program() -> PathBuf {
-    let path = PathBuf::from(concat!(env!("CARGO_MANIFEST_DIR"), "/../target/bin/plans"));
-    assert!(path.is_file(), "the program is missing: no {}; `rt check plans` proves and builds it", path.display());
+/// A built program. Fails where there is none.
+pub(crate) fn built(name: &str) -> PathBuf {
+    let path = PathBuf::from(format!("{}/../target/bin/{name}", env!("CARGO_MANIFEST_DIR")));
+    assert!(path.is_file(), "the program is missing: no {}; `rt check {name}` proves and builds it", path.display());
     path
 }
 
+/// The built program `plans`.
+pub fn program() -> PathBuf {
+    built("plans")
+}
+
 /// What a command writes to standard output. Fails unless it ends with status 0 and writes nothing to standard error.
-fn output_of(command: &mut Command) -> String {
+pub(crate) fn output_of(command: &mut Command) -> String {
     let output = command.stderr(Stdio::piped()).output().expect("the program runs");
     assert!(output.status.success(), "the program ended with {}", output.status);
     assert!(output.stderr.is_empty(), "on standard error: {}", String::from_utf8_lossy(&output.stderr));

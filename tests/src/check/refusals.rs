@@ -1,4 +1,4 @@
-//! What is turned away: document 01's table, for the calls on words, columns and run tables.
+//! What is turned away: document 01's table, for the calls on words, columns, run tables and design records.
 
 use super::bits::letters;
 use super::columns::rank_is;
@@ -66,6 +66,22 @@ pub fn accepted(n: usize, g: usize, form: Form, list: &[u32]) -> Result<Plan, u8
         return Err(7);
     }
     Ok(plan)
+}
+
+/// The same of a design record: its factor count, its basic count and its sixteen columns.
+pub fn accepted_record(n: usize, g: usize, record: &[u32]) -> Result<Plan, u8> {
+    let sizes = of_sizes(n, g);
+    if sizes != 0 {
+        return Err(sizes);
+    }
+    let (counts, columns) = record.split_at(2);
+    if counts != [n as u32, (n - g) as u32] {
+        return Err(4);
+    }
+    if columns[n..].iter().any(|&column| column != 0) {
+        return Err(5);
+    }
+    accepted(n, g, Form::Columns, &columns[..n])
 }
 
 /// The number under which several plans, N columns each, one after another, are refused, 0 if they are not.
