@@ -1,8 +1,10 @@
 /* Lists of 0 elements whose pointer is NULL, in every place of every call. Each line has the answer with NULL and the one with a pointer to a
- * list, which must be one and the same; null_lists.stdout has what must be printed. */
+ * list, and what the call with NULL filled of the lent lists; if the two do not come to the same, it says so. null_lists.stdout has what must
+ * be printed. */
 #include "planner.h"
 
 #include <stdio.h>
+#include <string.h>
 
 /* Any columns, words and runs; their lists are taken with 0 elements where NULL is tried. */
 static const uint8_t columns[] = {1, 2, 3};
@@ -11,34 +13,131 @@ static const uint16_t words[] = {7};
 static const uint16_t runs[] = {0, 5, 6, 3};
 static const uint8_t names[] = {0, 1, 2};
 
-/* Lists to lend. */
+/* A value that no result has, so that an untouched place is seen. */
+enum { UNTOUCHED = 99 };
+
+/* Lists to lend: the third is for the names of a witness. */
 static uint8_t bytes[PLAN_RUNS];
 static uint16_t shorts[PLAN_RUNS];
 static uint8_t more_bytes[PLAN_RUNS];
 
-static void print(const char *call, uint32_t with_null, uint32_t with_list)
+static void clear(void)
 {
-    printf("%s: %lu %lu\n", call, (unsigned long)with_null, (unsigned long)with_list);
+    for (size_t i = 0; i < PLAN_RUNS; i++) {
+        bytes[i] = more_bytes[i] = UNTOUCHED;
+        shorts[i] = UNTOUCHED;
+    }
 }
+
+/* What a call came to: its answer, its mask and its place or count, 0 where it has none, and the lent lists after it. */
+struct outcome {
+    uint32_t number;
+    uint16_t mask;
+    size_t count;
+    uint8_t bytes[PLAN_RUNS];
+    uint16_t shorts[PLAN_RUNS];
+    uint8_t more_bytes[PLAN_RUNS];
+};
+
+static struct outcome outcome(uint32_t number, uint16_t mask, size_t count)
+{
+    struct outcome found;
+    found.number = number;
+    found.mask = mask;
+    found.count = count;
+    memcpy(found.bytes, bytes, sizeof bytes);
+    memcpy(found.shorts, shorts, sizeof shorts);
+    memcpy(found.more_bytes, more_bytes, sizeof more_bytes);
+    return found;
+}
+
+static struct outcome of_number(uint32_t answer)
+{
+    return outcome(answer, 0, 0);
+}
+
+static struct outcome of_place(struct plan_place answer)
+{
+    return outcome(answer.number, 0, answer.place);
+}
+
+static struct outcome of_mask(struct plan_mask answer)
+{
+    return outcome(answer.number, answer.mask, answer.place);
+}
+
+static struct outcome of_entries(struct plan_entries answer)
+{
+    return outcome(answer.number, 0, answer.count);
+}
+
+static struct outcome of_book(struct plan_bytes answer)
+{
+    return outcome(answer.number, 0, answer.count);
+}
+
+static int same(const struct outcome *first, const struct outcome *second)
+{
+    return first->number == second->number && first->mask == second->mask && first->count == second->count &&
+           memcmp(first->bytes, second->bytes, sizeof bytes) == 0 && memcmp(first->shorts, second->shorts, sizeof shorts) == 0 &&
+           memcmp(first->more_bytes, second->more_bytes, sizeof more_bytes) == 0;
+}
+
+/* What the call filled of the lent lists: of names, which are the library's choice, how many. */
+static void print_filled(const struct outcome *found)
+{
+    const char *before = ", filled";
+    size_t named = 0;
+    for (size_t i = 0; i < PLAN_RUNS; i++) {
+        if (found->bytes[i] != UNTOUCHED || found->shorts[i] != UNTOUCHED) {
+            printf("%s %u", before, found->bytes[i] != UNTOUCHED ? found->bytes[i] : found->shorts[i]);
+            before = "";
+        }
+        named += found->more_bytes[i] != UNTOUCHED;
+    }
+    if (named > 0) {
+        printf(", %lu names", (unsigned long)named);
+    }
+}
+
+static void print(const char *call, const struct outcome *with_null, const struct outcome *with_list)
+{
+    printf("%s: %lu %lu", call, (unsigned long)with_null->number, (unsigned long)with_list->number);
+    print_filled(with_null);
+    if (with_null->count > 0) {
+        printf(", count %lu", (unsigned long)with_null->count);
+    }
+    printf("%s\n", same(with_null, with_list) ? "" : ", not the same");
+}
+
+/* Makes the call with NULL and the call with a list, whose answers are taken by a function of the above. */
+#define TRY(name, of, with_null, with_list)                                                                                                \
+    do {                                                                                                                                   \
+        clear();                                                                                                                           \
+        struct outcome first = of(with_null);                                                                                              \
+        clear();                                                                                                                           \
+        struct outcome second = of(with_list);                                                                                             \
+        print(name, &first, &second);                                                                                                      \
+    } while (0)
 
 /* A call with one list read and one lent: no element in the first, then no place in the second, then neither. */
 #define ONE_PLAN(call, list, count, lent)                                                                                                  \
-    print(#call ", nothing to read", call(3, 1, NULL, 0, lent, PLAN_RUNS), call(3, 1, list, 0, lent, PLAN_RUNS));                          \
-    print(#call ", nothing lent", call(3, 1, list, count, NULL, 0), call(3, 1, list, count, lent, 0));                                     \
-    print(#call ", neither", call(3, 1, NULL, 0, NULL, 0), call(3, 1, list, 0, lent, 0))
+    TRY(#call ", nothing to read", of_number, call(3, 1, NULL, 0, lent, PLAN_RUNS), call(3, 1, list, 0, lent, PLAN_RUNS));                 \
+    TRY(#call ", nothing lent", of_number, call(3, 1, list, count, NULL, 0), call(3, 1, list, count, lent, 0));                            \
+    TRY(#call ", neither", of_number, call(3, 1, NULL, 0, NULL, 0), call(3, 1, list, 0, lent, 0))
 
 /* A call with two lists read: no element in the first, the second, or either. */
 #define TWO_READ(call, n, g, list, count)                                                                                                  \
-    print(#call ", no first", call(n, g, NULL, 0, list, count), call(n, g, list, 0, list, count));                                         \
-    print(#call ", no second", call(n, g, list, count, NULL, 0), call(n, g, list, count, list, 0));                                        \
-    print(#call ", neither", call(n, g, NULL, 0, NULL, 0), call(n, g, list, 0, list, 0))
+    TRY(#call ", no first", of_number, call(n, g, NULL, 0, list, count), call(n, g, list, 0, list, count));                                \
+    TRY(#call ", no second", of_number, call(n, g, list, count, NULL, 0), call(n, g, list, count, list, 0));                               \
+    TRY(#call ", neither", of_number, call(n, g, NULL, 0, NULL, 0), call(n, g, list, 0, list, 0))
 
 /* A comparison: no element in the first list, the second, no place for the witness, or none in any. */
 #define COMPARISON(call, list, count)                                                                                                      \
-    print(#call ", no first", call(3, 1, NULL, 0, list, count, bytes, 3), call(3, 1, list, 0, list, count, bytes, 3));                     \
-    print(#call ", no second", call(3, 1, list, count, NULL, 0, bytes, 3), call(3, 1, list, count, list, 0, bytes, 3));                    \
-    print(#call ", no witness", call(3, 1, list, count, list, count, NULL, 0), call(3, 1, list, count, list, count, bytes, 0));            \
-    print(#call ", none", call(3, 1, NULL, 0, NULL, 0, NULL, 0), call(3, 1, list, 0, list, 0, bytes, 0))
+    TRY(#call ", no first", of_number, call(3, 1, NULL, 0, list, count, bytes, 3), call(3, 1, list, 0, list, count, bytes, 3));            \
+    TRY(#call ", no second", of_number, call(3, 1, list, count, NULL, 0, bytes, 3), call(3, 1, list, count, list, 0, bytes, 3));           \
+    TRY(#call ", no witness", of_number, call(3, 1, list, count, list, count, NULL, 0), call(3, 1, list, count, list, count, bytes, 0));   \
+    TRY(#call ", none", of_number, call(3, 1, NULL, 0, NULL, 0, NULL, 0), call(3, 1, list, 0, list, 0, bytes, 0))
 
 static void print_one_plan(void)
 {
@@ -58,17 +157,21 @@ static void print_one_plan(void)
     ONE_PLAN(plan_distances_of_runs, runs, 4, shorts);
 }
 
-/* A full factorial has no words: here NULL is accepted. */
+/* Of a full factorial, which has no words: here NULL is accepted. */
+#define NO_WORDS(name, call, lent, places) TRY(name, of_number, call(3, 0, NULL, 0, lent, places), call(3, 0, words, 0, lent, places))
+
 static void print_accepted(void)
 {
-    print("columns of no words", plan_columns_of_words(3, 0, NULL, 0, bytes, 3), plan_columns_of_words(3, 0, words, 0, bytes, 3));
-    print("runs of no words", plan_runs_of_words(3, 0, NULL, 0, shorts, 8), plan_runs_of_words(3, 0, words, 0, shorts, 8));
-    print("pattern of no words", plan_pattern_of_words(3, 0, NULL, 0, shorts, 3), plan_pattern_of_words(3, 0, words, 0, shorts, 3));
-    print("resolution of no words", plan_resolution_of_words(3, 0, NULL, 0, bytes, 1), plan_resolution_of_words(3, 0, words, 0, bytes, 1));
-    print("distances of no words", plan_distances_of_words(3, 0, NULL, 0, shorts, 4), plan_distances_of_words(3, 0, words, 0, shorts, 4));
-    print("no words of columns", plan_words_of_columns(3, 0, basic_columns, 3, NULL, 0), plan_words_of_columns(3, 0, basic_columns, 3, shorts, 0));
+    NO_WORDS("columns of no words", plan_columns_of_words, bytes, 3);
+    NO_WORDS("runs of no words", plan_runs_of_words, shorts, 8);
+    NO_WORDS("pattern of no words", plan_pattern_of_words, shorts, 3);
+    NO_WORDS("resolution of no words", plan_resolution_of_words, bytes, 1);
+    NO_WORDS("distances of no words", plan_distances_of_words, shorts, 4);
+    TRY("no words of columns", of_number, plan_words_of_columns(3, 0, basic_columns, 3, NULL, 0),
+        plan_words_of_columns(3, 0, basic_columns, 3, shorts, 0));
+    TWO_READ(plan_aberration_refusal, 3, 0, words, 0);
     TWO_READ(plan_less_aberration, 3, 0, words, 0);
-    print("a catalogue without entries", plan_catalogue(4, 2, 3, NULL, 0).number, plan_catalogue(4, 2, 3, bytes, 0).number);
+    TRY("a catalogue without entries", of_entries, plan_catalogue(4, 2, 3, NULL, 0), plan_catalogue(4, 2, 3, bytes, 0));
 }
 
 static void print_two_plans(void)
@@ -77,51 +180,50 @@ static void print_two_plans(void)
     TWO_READ(plan_less_aberration, 3, 1, words, 1);
     COMPARISON(plan_compare_columns, columns, 3);
     COMPARISON(plan_compare_runs, runs, 4);
-    print("plan_check_witness, no first", plan_check_witness(3, 1, NULL, 0, runs, 4, names, 3, 0),
-          plan_check_witness(3, 1, runs, 0, runs, 4, names, 3, 0));
-    print("plan_check_witness, no second", plan_check_witness(3, 1, runs, 4, NULL, 0, names, 3, 0),
-          plan_check_witness(3, 1, runs, 4, runs, 0, names, 3, 0));
-    print("plan_check_witness, no names", plan_check_witness(3, 1, runs, 4, runs, 4, NULL, 0, 0),
-          plan_check_witness(3, 1, runs, 4, runs, 4, names, 0, 0));
-    print("plan_check_witness, none", plan_check_witness(3, 1, NULL, 0, NULL, 0, NULL, 0, 0),
-          plan_check_witness(3, 1, runs, 0, runs, 0, names, 0, 0));
+    TRY("plan_check_witness, no first", of_number, plan_check_witness(3, 1, NULL, 0, runs, 4, names, 3, 0),
+        plan_check_witness(3, 1, runs, 0, runs, 4, names, 3, 0));
+    TRY("plan_check_witness, no second", of_number, plan_check_witness(3, 1, runs, 4, NULL, 0, names, 3, 0),
+        plan_check_witness(3, 1, runs, 4, runs, 0, names, 3, 0));
+    TRY("plan_check_witness, no names", of_number, plan_check_witness(3, 1, runs, 4, runs, 4, NULL, 0, 0),
+        plan_check_witness(3, 1, runs, 4, runs, 4, names, 0, 0));
+    TRY("plan_check_witness, none", of_number, plan_check_witness(3, 1, NULL, 0, NULL, 0, NULL, 0, 0),
+        plan_check_witness(3, 1, runs, 0, runs, 0, names, 0, 0));
 }
 
 /* The smallest form of one plan, by columns or by runs: no plan, no list to look in, which is accepted, no form, no witness, or none. */
-#define SMALLEST(call, plan, count)                                                                                                        \
-    print(#call ", no plan", call(3, 1, NULL, 0, columns, 3, bytes, 3, more_bytes, 3).number,                                              \
-          call(3, 1, plan, 0, columns, 3, bytes, 3, more_bytes, 3).number);                                                                \
-    print(#call ", no list", call(3, 1, plan, count, NULL, 0, bytes, 3, more_bytes, 3).number,                                             \
-          call(3, 1, plan, count, columns, 0, bytes, 3, more_bytes, 3).number);                                                            \
-    print(#call ", no form", call(3, 1, plan, count, columns, 3, NULL, 0, more_bytes, 3).number,                                           \
-          call(3, 1, plan, count, columns, 3, bytes, 0, more_bytes, 3).number);                                                            \
-    print(#call ", no witness", call(3, 1, plan, count, columns, 3, bytes, 3, NULL, 0).number,                                             \
-          call(3, 1, plan, count, columns, 3, bytes, 3, more_bytes, 0).number);                                                            \
-    print(#call ", none", call(3, 1, NULL, 0, NULL, 0, NULL, 0, NULL, 0).number,                                                           \
-          call(3, 1, plan, 0, columns, 0, bytes, 0, more_bytes, 0).number)
+#define SMALLEST(call, of, plan, count)                                                                                                    \
+    TRY(#call ", no plan", of, call(3, 1, NULL, 0, columns, 3, bytes, 3, more_bytes, 3),                                                   \
+        call(3, 1, plan, 0, columns, 3, bytes, 3, more_bytes, 3));                                                                         \
+    TRY(#call ", no list", of, call(3, 1, plan, count, NULL, 0, bytes, 3, more_bytes, 3),                                                  \
+        call(3, 1, plan, count, columns, 0, bytes, 3, more_bytes, 3));                                                                     \
+    TRY(#call ", no form", of, call(3, 1, plan, count, columns, 3, NULL, 0, more_bytes, 3),                                                \
+        call(3, 1, plan, count, columns, 3, bytes, 0, more_bytes, 3));                                                                     \
+    TRY(#call ", no witness", of, call(3, 1, plan, count, columns, 3, bytes, 3, NULL, 0),                                                  \
+        call(3, 1, plan, count, columns, 3, bytes, 3, more_bytes, 0));                                                                     \
+    TRY(#call ", none", of, call(3, 1, NULL, 0, NULL, 0, NULL, 0, NULL, 0), call(3, 1, plan, 0, columns, 0, bytes, 0, more_bytes, 0))
 
 static void print_smallest(void)
 {
-    SMALLEST(plan_smallest_of_columns, columns, 3);
-    SMALLEST(plan_smallest_of_runs, runs, 4);
-    print("plan_smallest_of_plans, no plans", plan_smallest_of_plans(3, 1, NULL, 0, bytes, 3, more_bytes, 3),
-          plan_smallest_of_plans(3, 1, columns, 0, bytes, 3, more_bytes, 3));
-    print("plan_smallest_of_plans, no forms", plan_smallest_of_plans(3, 1, columns, 3, NULL, 0, more_bytes, 3),
-          plan_smallest_of_plans(3, 1, columns, 3, bytes, 0, more_bytes, 3));
-    print("plan_smallest_of_plans, no witnesses", plan_smallest_of_plans(3, 1, columns, 3, bytes, 3, NULL, 0),
-          plan_smallest_of_plans(3, 1, columns, 3, bytes, 3, more_bytes, 0));
-    print("plan_smallest_of_plans, none", plan_smallest_of_plans(3, 1, NULL, 0, NULL, 0, NULL, 0),
-          plan_smallest_of_plans(3, 1, columns, 0, bytes, 0, more_bytes, 0));
+    SMALLEST(plan_smallest_of_columns, of_place, columns, 3);
+    SMALLEST(plan_smallest_of_runs, of_mask, runs, 4);
+    TRY("plan_smallest_of_plans, no plans", of_number, plan_smallest_of_plans(3, 1, NULL, 0, bytes, 3, more_bytes, 3),
+        plan_smallest_of_plans(3, 1, columns, 0, bytes, 3, more_bytes, 3));
+    TRY("plan_smallest_of_plans, no forms", of_number, plan_smallest_of_plans(3, 1, columns, 3, NULL, 0, more_bytes, 3),
+        plan_smallest_of_plans(3, 1, columns, 3, bytes, 0, more_bytes, 3));
+    TRY("plan_smallest_of_plans, no witnesses", of_number, plan_smallest_of_plans(3, 1, columns, 3, bytes, 3, NULL, 0),
+        plan_smallest_of_plans(3, 1, columns, 3, bytes, 3, more_bytes, 0));
+    TRY("plan_smallest_of_plans, none", of_number, plan_smallest_of_plans(3, 1, NULL, 0, NULL, 0, NULL, 0),
+        plan_smallest_of_plans(3, 1, columns, 0, bytes, 0, more_bytes, 0));
 }
 
 static void print_catalogue_and_book(void)
 {
-    print("plan_catalogue, no room", plan_catalogue(3, 1, 3, NULL, 0).number, plan_catalogue(3, 1, 3, bytes, 0).number);
-    print("plan_write_book, no plans", plan_write_book(3, 1, 3, NULL, 0, bytes, PLAN_RUNS).number,
-          plan_write_book(3, 1, 3, columns, 0, bytes, PLAN_RUNS).number);
-    print("plan_write_book, no places", plan_write_book(3, 1, 3, columns, 3, NULL, 0).number,
-          plan_write_book(3, 1, 3, columns, 3, bytes, 0).number);
-    print("plan_write_book, neither", plan_write_book(3, 1, 3, NULL, 0, NULL, 0).number, plan_write_book(3, 1, 3, columns, 0, bytes, 0).number);
+    TRY("plan_catalogue, no room", of_entries, plan_catalogue(3, 1, 3, NULL, 0), plan_catalogue(3, 1, 3, bytes, 0));
+    TRY("plan_write_book, no plans", of_book, plan_write_book(3, 1, 3, NULL, 0, bytes, PLAN_RUNS),
+        plan_write_book(3, 1, 3, columns, 0, bytes, PLAN_RUNS));
+    TRY("plan_write_book, no places", of_book, plan_write_book(3, 1, 3, columns, 3, NULL, 0),
+        plan_write_book(3, 1, 3, columns, 3, bytes, 0));
+    TRY("plan_write_book, neither", of_book, plan_write_book(3, 1, 3, NULL, 0, NULL, 0), plan_write_book(3, 1, 3, columns, 0, bytes, 0));
 }
 
 int main(void)

@@ -1,4 +1,4 @@
-//! The largest published counts of documents 000 and 002. Outside the gate: cargo test --release --features long --test long_catalogues
+//! The largest catalogues. Outside the gate: cargo test --release --features long --test long_catalogues
 
 use plan_tests::catalogues::{catalogue, entries, patterns_and_beginnings};
 use plan_tests::forms::compare_smallest;
@@ -30,6 +30,12 @@ fn counts_in_128_runs_from_13_factors() {
     for (n, count) in [(13, 623), (14, 1_535), (15, 3_522), (16, 7_500)] {
         confirm(n, 7, 4, count);
     }
+}
+
+/// No document has this count: that no plan is missing is seen by counting sets of columns.
+#[test]
+fn no_plan_of_16_factors_in_128_runs_is_missing() {
+    confirm(16, 7, 3, 745_413);
 }
 
 /// So that a ranking from length 3 up to M is one by all lengths, as document 000 has it: for every size.

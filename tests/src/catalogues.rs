@@ -1,8 +1,9 @@
 //! Calls for catalogues with guarded lists, held against the checking program.
 
 use crate::calls::{bytes, guarded, MARGIN};
+use crate::check::counting::{linear_maps, sets_of_rank};
 use crate::check::refusals::of_sizes;
-use crate::check::smallest::{no_word_below, smallest};
+use crate::check::smallest::{no_word_below, smallest, smallest_and_orders};
 use crate::guarded::{plan_catalogue, plan_pattern_of_columns};
 use crate::known::every_plan;
 use std::collections::BTreeSet;
@@ -92,21 +93,28 @@ pub fn entries(n: usize, g: usize, r: usize, room: usize) -> (bool, Entries) {
 }
 
 /// The catalogue of a size as the library gives it, which has no more entries than this. Fails unless each is a smallest form by the
-/// checking program, has no word below R, and stands after the one before it.
+/// checking program, has no word below R, and stands after the one before it; for R 3, unless every set of n columns of rank m has its form
+/// among them.
 pub fn catalogue(n: usize, m: usize, r: usize, most: usize) -> Entries {
     let (whole, entries) = entries(n, n - m, r, most);
     assert!(whole, "{n} {} {r} has more than {most} entries", n - m);
-    confirm_entries(m, r, &entries);
+    let sets = confirm_entries(m, r, &entries);
+    assert!(r > 3 || sets == sets_of_rank(n, m), "{n} {} {r}: {sets} sets of columns have an entry", n - m);
     entries
 }
 
-/// Fails unless these are smallest forms in dictionary order, without a word below r.
-pub fn confirm_entries(m: usize, r: usize, entries: &Entries) {
+/// Fails unless these are smallest forms in dictionary order, without a word below r. Returns how many sets of columns have one of them as
+/// their smallest form: the linear maps turn a form into each of its sets as often as the form has renamings onto itself.
+pub fn confirm_entries(m: usize, r: usize, entries: &[Vec<u32>]) -> u128 {
+    let mut sets = 0;
     for (k, entry) in entries.iter().enumerate() {
         assert!(k == 0 || entries[k - 1] < *entry, "entry {k} is not after the one before it: {entry:?}");
         assert!(no_word_below(r, entry), "entry {k} has a word below {r}: {entry:?}");
-        assert_eq!(smallest(m, entry), *entry, "entry {k} is not a smallest form");
+        let (form, orders) = smallest_and_orders(m, entry);
+        assert_eq!(form, *entry, "entry {k} is not a smallest form");
+        sets += linear_maps(m) / orders as u128;
     }
+    sets
 }
 
 /// How many different beginnings, from length 3 to m, the patterns of these plans have, and how many different patterns.

@@ -37,7 +37,7 @@ pub struct Trial {
     forms: BTreeMap<(usize, usize), Entries>,
     /// whether to stay near the slowest: then the inputs depend on the time that calls take
     pub seeking: bool,
-    /// the plans on which these functions took the longest so far
+    /// the plans on which these functions took the longest so far; at first one that is hard
     slow: [(&'static str, Sample); 2],
 }
 
@@ -46,8 +46,8 @@ impl Trial {
     pub fn new(seed: u64) -> Trial {
         keep();
         let symmetric = symmetric().into_iter().map(|(_, plan)| plan);
-        let hard = symmetric.chain(alike_pairs().into_iter().flat_map(|(first, second)| [first, second])).collect();
-        let slow = ["plan_smallest_of_columns", "plan_compare_columns"].map(|name| (name, sample_of((1, vec![1]))));
+        let hard: Vec<Columns> = symmetric.chain(alike_pairs().into_iter().flat_map(|(first, second)| [first, second])).collect();
+        let slow = ["plan_smallest_of_columns", "plan_compare_columns"].map(|name| (name, sample_of(hard[0].clone())));
         Trial {
             random: Random::new(seed),
             tally: Tally::new(),
@@ -79,16 +79,20 @@ impl Trial {
         }
     }
 
-    /// A plan: any, one that is hard to compare, one with words of even length only, or one near the slowest so far; one in eight with a
-    /// word that is too short.
+    /// A plan: any, one that is hard to compare, one with words of even length only, or one near a hard one or near the slowest so far; one
+    /// in eight with a word that is too short.
     fn plan(&mut self) -> Sample {
         let random = &mut self.random;
         let plan = match random.below(5) {
             0 => sample_of(self.hard[random.below(self.hard.len())].clone()),
             1 => sample_of(odd_weight(random, 16, 7)),
-            2 => {
+            2 if self.seeking => {
                 let (_, slow) = &self.slow[random.below(2)];
                 near(random, slow)
+            }
+            2 => {
+                let hard = sample_of(self.hard[random.below(self.hard.len())].clone());
+                near(random, &hard)
             }
             _ => sample(random),
         };
@@ -98,8 +102,8 @@ impl Trial {
         short_sample(random, &plan).unwrap_or(plan)
     }
 
-    /// The plan in a form, as it is or damaged once or twice, with one bit cleared in every number, with other sizes, or with another count of numbers, also one
-    /// that has the right last digits.
+    /// The plan in a form, as it is or damaged once or twice, with one bit cleared in every number, with other sizes, or with another count of
+    /// numbers, also one that has the right last digits.
     fn list(&mut self, plan: &Sample, form: Form) -> Given {
         let random = &mut self.random;
         let good = given(random, plan, form);
@@ -144,7 +148,10 @@ impl Trial {
     /// The plan and another of its size, or itself, by words.
     fn rankings(&mut self, plan: &Sample) {
         for _ in 0..4 {
-            let other = Sample { columns: columns(&mut self.random, plan.n, plan.m), ..*plan };
+            let other = match self.random.below(4) {
+                0 => plan.clone(),
+                _ => Sample { columns: columns(&mut self.random, plan.n, plan.m), ..*plan },
+            };
             let (first, second) = (self.list(plan, Form::Words), self.list(&other, Form::Words));
             compare_ranking(first.n, first.g, &first.list, &second.list);
             compare_ranking(first.n, first.g, &second.list, &first.list);

@@ -11,24 +11,23 @@ fn word_of_length(letters: usize) -> u32 {
     (1 << letters) - 1
 }
 
+/// The list with this code of so many numbers below the bound.
+fn list_of(code: usize, count: usize, bound: usize) -> Vec<u32> {
+    (0..count).map(|place| (code / bound.pow(place as u32) % bound) as u32).collect()
+}
+
 #[test]
-fn every_pair_of_word_lists_of_up_to_4_factors_is_ranked_as_defined() {
+fn every_pair_of_lists_of_up_to_2_words_of_up_to_4_factors_is_ranked_as_defined() {
     let mut reached = [0; 9];
-    for n in 1..=4 {
-        let numbers: Vec<u32> = (0..=1 << n).collect();
-        for first in &numbers {
-            for second in &numbers {
-                reached[compare_ranking(n, 1, &[*first], &[*second]).refusal as usize] += 1;
-            }
+    for (n, g) in (1..=4).flat_map(|n| (0..=2).map(move |g| (n, g))) {
+        let bound = (1 << n) + 1;
+        for code in 0..usize::pow(bound, 2 * g as u32) {
+            let words = list_of(code, 2 * g, bound);
+            reached[compare_ranking(n, g, &words[..g], &words[g..]).refusal as usize] += 1;
         }
     }
-    let numbers: Vec<u32> = (0..=16).collect();
-    for code in 0..numbers.len().pow(4) {
-        let pick = |place: u32| numbers[code / numbers.len().pow(place) % numbers.len()];
-        reached[compare_ranking(4, 2, &[pick(0), pick(1)], &[pick(2), pick(3)]).refusal as usize] += 1;
-    }
     for number in [0, 2, 5, 6, 7] {
-        assert!(reached[number] > 0, "never refused under {number}: {reached:?}");
+        assert!(reached[number] > 0, "never answered {number}: {reached:?}");
     }
 }
 

@@ -1,12 +1,18 @@
-//! Catalogues: every small size by enumeration, the published counts that are quick, lists of every length, and refusals.
+//! Catalogues: every small size by enumeration, larger ones by counting sets of columns and by the published counts, every resolution, lists of
+//! every length, and refusals.
 
 use plan_tests::catalogues::{
     catalogue, compare_catalogue, compare_refused, confirm_entries, entries, every_smallest_form, refusal, with_resolution,
 };
+use plan_tests::check::columns::rank_is;
+use plan_tests::check::counting::sets_of_rank;
 use plan_tests::check::growth::{grown, Grown};
 use plan_tests::check::labels::label;
+use plan_tests::check::renamings::{differences, every_renaming, renamed};
 use plan_tests::check::runs::runs_of_columns;
-use plan_tests::check::smallest::{first_of_each_image, first_of_each_label};
+use plan_tests::check::smallest::{
+    every_rising_list, first_forms, first_of_each_image, first_of_each_label, no_word_below, smallest_and_orders,
+};
 use std::collections::BTreeSet;
 
 /// Every size with up to this many factors: N and M.
@@ -58,6 +64,36 @@ fn the_checking_programs_growth_has_the_published_counts() {
 }
 
 #[test]
+fn the_checking_programs_first_forms_are_those_that_it_enumerates() {
+    for (n, m) in sizes(8) {
+        let forms = every_smallest_form(n, m);
+        assert_eq!(first_forms(n, m, usize::MAX), forms, "{n} factors, {m} basic");
+        assert_eq!(first_forms(n, m, 2), forms[..forms.len().min(2)], "{n} factors, {m} basic");
+    }
+}
+
+#[test]
+fn the_checking_programs_orders_are_as_many_as_the_renamings_onto_itself() {
+    for (n, m) in sizes(7) {
+        for form in every_smallest_form(n, m) {
+            let given = differences(&runs_of_columns(m, &form));
+            let mut onto_itself = 0;
+            every_renaming(n, &mut |names| onto_itself += usize::from(given.iter().all(|&row| given.contains(&renamed(names, row)))));
+            assert_eq!(smallest_and_orders(m, &form).1, onto_itself, "{form:?}, {m} basic");
+        }
+    }
+}
+
+#[test]
+fn the_checking_programs_count_of_sets_of_columns_is_that_of_the_rising_lists() {
+    for (n, m) in sizes(15).filter(|&(n, m)| m <= 4 || n == 5) {
+        let mut sets = 0;
+        every_rising_list(n, m, &mut |list| sets += u128::from(rank_is(m, list)));
+        assert_eq!(sets_of_rank(n, m), sets, "{n} factors, {m} basic");
+    }
+}
+
+#[test]
 fn every_catalogue_of_up_to_8_factors_is_exactly_the_enumerated_one_for_lists_of_every_room() {
     let mut compared = 0;
     for (n, m) in sizes(8) {
@@ -76,12 +112,31 @@ fn every_catalogue_of_up_to_8_factors_is_exactly_the_enumerated_one_for_lists_of
 }
 
 #[test]
-fn a_resolution_up_to_16_leaves_only_full_factorials_and_long_words() {
-    for (n, m) in sizes(7) {
-        let forms = every_smallest_form(n, m);
-        for r in n + 2..=16 {
-            let entries = if n == m { forms.clone() } else { Vec::new() };
-            compare_catalogue(n, n - m, r.max(3), &entries, 3 * n);
+fn a_full_factorial_meets_every_resolution_and_no_other_plan_one_above_its_factors() {
+    for (n, m) in sizes(16) {
+        let full = vec![(0..m).map(|i| 1 << i).collect()];
+        for r in if n == m { 3..=16 } else { 3.max(n + 1)..=16 } {
+            let entries = if n == m { full.clone() } else { Vec::new() };
+            compare_catalogue(n, n - m, r, &entries, 3 * n);
+        }
+    }
+}
+
+/// The lowest R whose catalogue is quick to list, and that catalogue as the library gives it: R 3, but for the largest size.
+fn lowest_resolution(n: usize, m: usize) -> (usize, Vec<Vec<u32>>) {
+    let r = if (n, m) == (16, 7) { 4 } else { 3 };
+    let whole = [1_000, 30_000, 140_000].into_iter().map(|room| entries(n, n - m, r, room)).find(|(whole, _)| *whole);
+    (r, whole.unwrap_or_else(|| panic!("{n} {} {r} has more entries", n - m)).1)
+}
+
+#[test]
+fn a_higher_resolution_has_the_entries_of_a_lower_one_that_have_no_shorter_word() {
+    for (n, m) in sizes(16) {
+        let (least, mut entries) = lowest_resolution(n, m);
+        for r in least + 1..=16 {
+            entries = with_resolution(&entries, r);
+            compare_catalogue(n, n - m, r, &entries, entries.len() * n);
+            compare_catalogue(n, n - m, r, &entries, entries.len() / 2 * n);
         }
     }
 }
@@ -96,9 +151,18 @@ fn lists_shorter_than_one_entry_and_every_length_between_entries() {
     }
 }
 
-/// The entries of a size: their count, after each was confirmed.
+/// The entries of a size: their count, after each was confirmed; for R 3, after no plan was found to be missing.
 fn count(n: usize, m: usize, r: usize) -> usize {
-    catalogue(n, m, r, 1_000).len()
+    catalogue(n, m, r, if n == 15 { 140_000 } else { 30_000 }).len()
+}
+
+/// The same of a size whose entries take long to confirm: some of them are.
+fn count_by_some(n: usize, m: usize, r: usize) -> usize {
+    let (whole, entries) = entries(n, n - m, r, 10_000);
+    assert!(whole && entries.is_sorted_by(|one, next| one < next) && entries.iter().all(|entry| no_word_below(r, entry)));
+    let some: Vec<Vec<u32>> = entries.iter().step_by(40).cloned().collect();
+    confirm_entries(m, r, &some);
+    entries.len()
 }
 
 #[test]
@@ -134,25 +198,40 @@ fn counts_of_documents_000_and_002_in_32_runs() {
 }
 
 #[test]
-fn counts_of_document_002_in_64_runs_up_to_12_factors() {
-    let counts: Vec<usize> = (6..=12).map(|n| count(n, 6, 3)).collect();
-    assert_eq!(counts, [1, 5, 14, 38, 105, 273, 700]);
+fn counts_of_document_002_in_64_runs() {
+    let counts: Vec<usize> = (6..=16).map(|n| count(n, 6, 3)).collect();
+    assert_eq!(counts, [1, 5, 14, 38, 105, 273, 700, 1_794, 4_579, 11_635, 29_091]);
 }
 
 #[test]
-fn counts_of_documents_000_and_002_in_128_runs_up_to_12_factors() {
-    let counts: Vec<usize> = (7..=12).map(|n| count(n, 7, 4)).collect();
-    assert_eq!(counts, [1, 5, 13, 33, 92, 249]);
+fn counts_of_documents_000_and_002_in_128_runs() {
+    let counts: Vec<usize> = (7..=13).map(|n| count(n, 7, 4)).chain((14..=16).map(|n| count_by_some(n, 7, 4))).collect();
+    assert_eq!(counts, [1, 5, 13, 33, 92, 249, 623, 1_535, 3_522, 7_500]);
+}
+
+/// No document has these counts: that no plan is missing is seen by counting sets of columns.
+#[test]
+fn no_plan_of_up_to_15_factors_in_128_runs_is_missing() {
+    let counts: Vec<usize> = (7..=15).map(|n| count(n, 7, 3)).collect();
+    assert_eq!(counts, [1, 6, 22, 80, 312, 1_285, 5_632, 26_792, 137_493]);
+}
+
+#[test]
+fn document_000_from_12_factors_on_no_plan_in_128_runs_has_resolution_5() {
+    assert_eq!(count(11, 7, 5), 1);
+    for (n, r) in (12..=16).flat_map(|n| (5..=16).map(move |r| (n, r))) {
+        compare_catalogue(n, n - 7, r, &Vec::new(), n);
+    }
 }
 
 #[test]
 fn every_size_fills_a_short_list_with_its_first_smallest_forms() {
     for (n, m) in sizes(16) {
-        let (whole, first) = entries(n, n - m, 3, 3);
-        assert!(whole || first.len() == 3, "{n} factors, {m} basic: {first:?}");
-        confirm_entries(m, 3, &first);
-        let (_, fewer) = entries(n, n - m, 3, 2);
-        assert_eq!(fewer, first[..first.len().min(2)], "{n} factors, {m} basic");
+        let first = first_forms(n, m, 4);
+        for room in 0..=3 {
+            compare_catalogue(n, n - m, 3, &first, room * n);
+            compare_catalogue(n, n - m, 3, &first, room * n + n - 1);
+        }
     }
 }
 

@@ -1,5 +1,5 @@
-//! docs/DEMANDS.md beside the repository: every definition, theorem, contract, wrong program, test and instance that the page names is there, every
-//! definition of the paper has a line of the reader's pass, and its name no second meaning.
+//! docs/DEMANDS.md beside the repository: every definition, theorem, contract, wrong program, test, instance and language form that the page
+//! names is there, every definition of the paper has a line of the reader's pass, and no other crate defines its name anew.
 
 use std::collections::BTreeSet;
 use std::fs;
@@ -13,16 +13,24 @@ fn read(path: &Path) -> String {
     fs::read_to_string(path).unwrap_or_else(|error| panic!("{}: {error}", path.display()))
 }
 
-/// The cells of each row of the page's tables that has this many, without the heads and the lines below them.
-fn rows(page: &str, cells: usize) -> Vec<Vec<String>> {
-    let lines: Vec<&str> = page.lines().collect();
-    let is_rule = |line: &str| line.starts_with("|---");
-    let body = lines
-        .iter()
-        .enumerate()
-        .filter(|&(i, line)| line.starts_with('|') && !is_rule(line) && !lines.get(i + 1).is_some_and(|next| is_rule(next)));
-    let split = body.map(|(_, line)| line.trim_matches('|').split('|').map(|cell| cell.trim().to_string()).collect::<Vec<_>>());
-    split.filter(|row| row.len() == cells).collect()
+fn cells(line: &str) -> Vec<String> {
+    line.trim_matches('|').split('|').map(|cell| cell.trim().to_string()).collect()
+}
+
+/// The rows of the page's tables that have this many cells, without the heads and the lines below them. Fails if a row has not as many cells
+/// as its table.
+fn rows(page: &str, count: usize) -> Vec<Vec<String>> {
+    let (mut width, mut rows) = (0, Vec::new());
+    for (line, next) in page.lines().zip(page.lines().skip(1).chain([""])) {
+        if line.starts_with("|---") {
+            width = cells(line).len();
+        } else if line.starts_with('|') && !next.starts_with("|---") {
+            assert_eq!(cells(line).len(), width, "cells of {line}");
+            rows.push(cells(line));
+        }
+    }
+    rows.retain(|row| row.len() == count);
+    rows
 }
 
 /// What stands between backticks.
@@ -47,13 +55,26 @@ fn declared(line: &str) -> Option<&str> {
     rest.split([' ', '(', '<', ':', '{']).next().filter(|name| !name.is_empty())
 }
 
-/// The names that the specifications of a crate define, laws left out.
+/// The names that the specifications of a crate define: laws, and what is defined inside one, left out.
 fn definitions(krate: &str) -> BTreeSet<String> {
-    let folder = root().join(format!("crates/{krate}/specs"));
-    let paths = fs::read_dir(folder).into_iter().flatten().map(|entry| entry.expect("a file").path());
-    let texts: Vec<String> = paths.map(|path| read(&path)).collect();
-    let defines = |line: &&str| ["pub record ", "pub data ", "abbrev pub ", "unfoldable pub "].iter().any(|start| line.starts_with(start));
-    texts.iter().flat_map(|text| text.lines()).filter(defines).filter_map(declared).map(str::to_string).collect()
+    let texts = texts(krate, "specs");
+    let starts = ["pub record ", "pub data ", "record ", "data ", "abbrev ", "unfoldable "];
+    let defining = texts.lines().filter(|line| starts.iter().any(|start| line.starts_with(start)));
+    defining.filter_map(declared).map(str::to_string).collect()
+}
+
+/// The types that the code of a crate declares.
+fn types(krate: &str) -> BTreeSet<String> {
+    let texts = texts(krate, "src");
+    let starts = ["pub struct ", "pub enum ", "struct ", "enum "];
+    let declaring = texts.lines().filter(|line| starts.iter().any(|start| line.trim_start().starts_with(start)));
+    declaring.filter_map(declared).map(str::to_string).collect()
+}
+
+/// The files of a folder of a crate, one after another.
+fn texts(krate: &str, folder: &str) -> String {
+    let entries = fs::read_dir(root().join(format!("crates/{krate}/{folder}"))).into_iter().flatten();
+    entries.map(|entry| read(&entry.expect("a file").path()) + "\n").collect()
 }
 
 #[test]
@@ -83,16 +104,37 @@ fn every_definition_has_a_line_of_the_readers_pass_and_every_instance_is_proved(
     assert!(named(3).len() > 100, "only {} instances on the page", named(3).len());
 }
 
+/// Types in the code that still have the name of a definition.
+const STILL_NAMED: [&str; 3] = ["Size in plans", "Listed in catalogue", "Better in canonical"];
+
 #[test]
-fn names_of_the_papers_definitions_have_one_meaning() {
+fn no_definition_or_type_of_another_crate_has_the_name_of_a_definition_of_the_paper() {
     let own = definitions("regular");
     let crates = fs::read_dir(root().join("crates")).expect("the folder crates");
-    let mut twice = Vec::new();
+    let (mut seen, mut twice) = (0, Vec::new());
     for krate in crates.map(|entry| entry.expect("a crate").file_name().into_string().expect("a name")).filter(|krate| krate != "regular") {
-        let again = definitions(&krate).into_iter().filter(|name| own.contains(name));
-        twice.extend(again.map(|name| format!("{name} in {krate}")));
+        let others: BTreeSet<String> = definitions(&krate).union(&types(&krate)).cloned().collect();
+        seen += others.len();
+        twice.extend(others.intersection(&own).map(|name| format!("{name} in {krate}")));
     }
+    twice.retain(|name| !STILL_NAMED.contains(&name.as_str()));
     assert!(twice.is_empty(), "defined anew: {twice:?}");
+    assert!(own.len() > 100 && seen > 200, "only {} definitions of the paper and {seen} others", own.len());
+}
+
+#[test]
+fn every_language_form_stands_where_the_page_says() {
+    let page = read(&root().join("docs/DEMANDS.md"));
+    let rows = rows(&page, 2);
+    assert_eq!(rows.len(), 9, "the paper's language forms");
+    for row in rows {
+        let (places, named): (Vec<&str>, Vec<&str>) = names(&row[1]).partition(|name| name.contains('/'));
+        assert!(places.iter().all(|place| root().join(place).exists()), "one of {places:?} is not there");
+        let code: String = places.iter().filter_map(|place| place.strip_prefix("crates/")).map(|krate| texts(krate, "src")).collect();
+        let known: BTreeSet<&str> = code.lines().filter_map(declared).collect();
+        assert!(named.iter().all(|name| known.contains(name)), "one of {named:?} is not in {places:?}");
+        assert!(!places.is_empty() || row[0].ends_with("(02)"), "nowhere: {}", row[0]);
+    }
 }
 
 #[test]

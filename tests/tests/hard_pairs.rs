@@ -64,10 +64,10 @@ fn plans_with_words_of_even_length_only_are_compared_as_defined() {
 fn plans_with_many_renamings_onto_themselves_are_the_same_as_their_disguises() {
     let mut random = Random::new(0x5e1f);
     let mut counts = Counts::default();
-    for (what, (m, columns)) in symmetric() {
+    for (k, (what, (m, columns))) in symmetric().into_iter().enumerate() {
         let plan = Known::new(m, &columns);
         compare_often(&mut random, &[plan], 100, &mut counts);
-        assert_eq!(counts.different, 0, "{what}");
+        assert_eq!((counts.same, counts.different), (100 * (k + 1), 0), "{what}");
     }
 }
 

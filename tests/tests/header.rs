@@ -1,9 +1,11 @@
-//! The C header beside the static library's exported functions and beside the crate that calls them from Rust.
+//! The C header beside the static library's exported functions, their source, and the crate that calls them from Rust.
 
-use std::collections::BTreeSet;
+use std::collections::{BTreeMap, BTreeSet};
 use std::process::Command;
 
 const HEADER: &str = include_str!("../../include/planner.h");
+const SOURCE: &str = include_str!("../../crates/planner/src/lib.rt");
+const SOURCE_TYPES: &str = include_str!("../../crates/regular/src/lib.rt");
 const CRATE: &str = include_str!("../planner/src/lib.rs");
 const EXPORTED: &str = include_str!("../src/exported.rs");
 const LIBRARY: &str = concat!(env!("CARGO_MANIFEST_DIR"), "/../target/staticlib/libplanner.a");
@@ -62,5 +64,83 @@ fn the_crates_constants_are_the_headers() {
     for constant in constants {
         let (name, value) = constant.split_once(": u32 = ").expect("a constant of 32 bits");
         assert_eq!(defined(name), Some(number(value)), "{name}");
+    }
+}
+
+/// What each function takes and answers, as Rust writes it: a list with its count is a slice, a struct stands by its fields.
+type Signatures = BTreeMap<String, (Vec<String>, String)>;
+
+/// The signatures that a text in Rattle or Rust declares after these words.
+fn signatures(text: &str, start: &str, types: &str) -> Signatures {
+    let trimmed = |list: &str| list.split(',').map(str::trim).filter(|part| !part.is_empty()).map(str::to_string).collect::<Vec<_>>();
+    let answered = |name: &str| match types.split_once(&format!("pub struct {name} {{")) {
+        Some((_, rest)) => trimmed(&rest[..rest.find('}').expect("a struct's end")].replace("pub ", "")).join(", "),
+        None => name.to_string(),
+    };
+    let signature = |part: &str| {
+        let (name, rest) = part.split_once('(').expect("parameters");
+        let (taken, rest) = rest.split_once(") -> ").expect("an answer");
+        (name.to_string(), (trimmed(taken), answered(rest.split_whitespace().next().expect("an answer"))))
+    };
+    text.split(start).skip(1).map(signature).collect()
+}
+
+/// A parameter or a field of the header: a pointer is a list.
+fn of_c(text: &str) -> String {
+    let (kind, name) = text.trim().rsplit_once(' ').expect("a type and a name");
+    let kind = kind.replace("size_t", "usize").replace("uint", "u").replace("_t", "");
+    match (name.strip_prefix('*'), kind.strip_prefix("const ")) {
+        (None, _) => format!("{name}: {kind}"),
+        (Some(list), Some(element)) => format!("{list}: &[{element}]"),
+        (Some(list), None) => format!("{list}: &mut [{kind}]"),
+    }
+}
+
+/// What a function of the header takes, each list with the count after it.
+fn taken(parameters: &str) -> Vec<String> {
+    let mut all = parameters.split(',').map(of_c);
+    let mut taken = Vec::new();
+    while let Some(parameter) = all.next() {
+        let count = if parameter.contains('&') { all.next() } else { Some(": usize".to_string()) };
+        assert!(count.is_some_and(|count| count.ends_with(": usize")), "{parameter} has no count");
+        taken.push(parameter);
+    }
+    taken
+}
+
+/// The signatures of the header, which is read without its comments and directives.
+fn signatures_of_the_header() -> Signatures {
+    let bare: String = HEADER.split("/*").map(|part| part.split_once("*/").map_or(part, |(_, rest)| rest)).collect();
+    let lines: Vec<&str> = bare.lines().filter(|line| !line.starts_with('#')).collect();
+    let text = lines.join("\n");
+    let answered = |name: &str| match text.split_once(&format!("struct {name} {{")) {
+        Some((_, rest)) => {
+            let fields = rest[..rest.find('}').expect("a struct's end")].split(';').filter(|field| !field.trim().is_empty());
+            fields.map(of_c).collect::<Vec<_>>().join(", ")
+        }
+        None => name.replace("uint", "u").replace("_t", ""),
+    };
+    let signature = |statement: &str| {
+        let (before, rest) = statement.split_once('(')?;
+        let mut words = before.split_whitespace().rev();
+        let (name, answer) = (words.next()?, words.next()?);
+        Some((name.to_string(), (taken(rest.trim_end_matches(')')), answered(answer))))
+    };
+    text.split(';').filter_map(signature).collect()
+}
+
+#[test]
+fn the_header_the_source_and_the_crate_have_the_same_parameters_and_answers() {
+    let header = signatures_of_the_header();
+    assert_eq!(header, signatures(SOURCE, "pub extern \"C\" fn ", SOURCE_TYPES), "in the header, and in the source");
+    assert_eq!(header, signatures(CRATE, "\npub fn ", CRATE), "in the header, and in the crate");
+}
+
+#[test]
+fn every_function_takes_n_and_g() {
+    let signatures = signatures_of_the_header();
+    assert_eq!(signatures.keys().cloned().collect::<BTreeSet<_>>(), of_the_header());
+    for (name, (taken, _)) in signatures {
+        assert!(taken.starts_with(&["n: usize", "g: usize"].map(String::from)), "{name} takes {taken:?}");
     }
 }

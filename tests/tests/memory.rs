@@ -66,7 +66,7 @@ fn a_write_past_either_end_of_a_lent_list_is_noticed() {
 
 #[test]
 fn a_write_to_a_list_that_is_read_is_noticed() {
-    let (mut stopped, mut noticed) = (0, 0);
+    let (mut stopped, mut written, mut noticed) = (0, 0, 0);
     for _ in 0..1000 {
         let list = [7u16; 4];
         let placed = Read::new(&list);
@@ -75,10 +75,11 @@ fn a_write_to_a_list_that_is_read_is_noticed() {
             stopped += 1;
         } else if stopped == 0 {
             write(place);
+            written += 1;
             noticed += usize::from(catch_unwind(AssertUnwindSafe(|| drop(placed))).is_err());
         }
     }
-    assert!(stopped == 1 && noticed > 0, "{stopped} stopped, {noticed} noticed");
+    assert!(stopped == 1 && written > 0 && noticed == written, "{stopped} stopped, {noticed} of {written} noticed");
 }
 
 #[test]

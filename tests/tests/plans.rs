@@ -1,5 +1,6 @@
 //! The program `plans`: sizes, refusals, lines that give no size, and what it leaves unread.
 
+use plan_tests::catalogues::entries;
 use plan_tests::program::{
     compare_line, compare_sizes, confirm_listing, pipe_of, printed, printed_and_left, printed_by_shell, program, refused_line, NOT_A_SIZE,
 };
@@ -66,11 +67,27 @@ fn larger_sizes_whose_counts_are_published() {
     }
 }
 
+/// Every size that is not refused by 1, 2 or 3: N, M and R.
+fn every_size() -> impl Iterator<Item = (usize, usize, usize)> {
+    (1..=16).flat_map(|n| (1..=n.min(7)).flat_map(move |m| (3..=16).map(move |r| (n, m, r))))
+}
+
+/// The closest to 1,024 entries are 12 6 3, which has 700 and is listed, and 12 5 3, which has 1,285 and is refused.
 #[test]
-fn sizes_with_more_than_1024_published_entries_are_refused_by_9() {
-    for line in ["13 7 3", "14 8 3", "15 9 3", "16 10 3", "14 7 4", "15 8 4", "16 9 4", "14 7 3", "15 8 3", "16 9 3"] {
-        compare_line(line, "refused 9\n");
+fn exactly_the_sizes_with_more_than_1024_entries_are_refused_by_9() {
+    let mut refused = Vec::new();
+    for (n, m, r) in every_size() {
+        let (whole, entries) = entries(n, n - m, r, 1_284);
+        assert!(!whole || entries.len() <= 700, "{n} {} {r} has {} entries", n - m, entries.len());
+        let line = format!("{n} {} {r}", n - m);
+        let header = if whole { format!("catalogue {line} entries {}", entries.len()) } else { "refused 9".to_string() };
+        let found = printed(pipe_of(line.as_bytes()));
+        assert_eq!(found.lines().next(), Some(header.as_str()), "for '{line}'");
+        assert_eq!(found.lines().count(), if whole { 1 + entries.len() } else { 1 }, "for '{line}'");
+        refused.extend((!whole).then_some(line));
     }
+    let larger = ["12 5 3", "13 7 3", "13 6 3", "14 8 3", "14 7 3", "14 7 4", "15 9 3", "15 8 3", "15 8 4", "16 10 3", "16 9 3", "16 9 4"];
+    assert_eq!(refused, larger);
 }
 
 #[test]

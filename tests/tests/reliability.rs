@@ -3,6 +3,7 @@
 
 use plan_tests::check::plan::Form;
 use plan_tests::compare::ANSWERS;
+use plan_tests::exported::NAMES;
 use plan_tests::records::records;
 use plan_tests::trial::Trial;
 
@@ -12,8 +13,10 @@ const CALLS: u64 = 40_000;
 fn a_sample_of_calls_is_answered_as_defined_without_touching_anything_else() {
     let mut trial = Trial::new(0x7217);
     trial.run(CALLS);
-    for (name, record) in records() {
-        assert!(record.calls > CALLS / 100, "{name}: {} calls", record.calls);
+    let records = records();
+    for name in NAMES {
+        let calls = records.get(name).map_or(0, |record| record.calls);
+        assert!(calls > CALLS / 100, "{name}: {calls} calls");
     }
     for form in [Form::Words, Form::Columns, Form::Runs] {
         trial.tally.assert_reached(form, &ANSWERS);

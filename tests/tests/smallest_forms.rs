@@ -1,8 +1,8 @@
-//! Smallest forms: of every small plan, of random plans in other names and basics, of a catalogue's entries, of run tables, of several plans in one
-//! call; their first place in a list; and refusals.
+//! Smallest forms: of every small plan, of random plans in other names and basics, of a catalogue's entries, of run tables, of several plans
+//! in one call; their first place in a list; and refusals.
 
 use plan_tests::calls::Given;
-use plan_tests::catalogues::{entries, Entries};
+use plan_tests::catalogues::{catalogue, Entries};
 use plan_tests::check::columns::rank_is;
 use plan_tests::check::labels::label;
 use plan_tests::check::plan::Form;
@@ -59,23 +59,36 @@ fn a_smallest_form_stands_before_every_other_rising_list_of_its_label() {
     }
 }
 
+/// Every size that has a plan without a short word: N and M.
+fn every_size() -> Vec<(usize, usize)> {
+    (1..=7).flat_map(|m| (m..=16.min((1 << m) - 1)).map(move |n| (n, m))).collect()
+}
+
 #[test]
 fn random_plans_of_every_size_have_the_smallest_form_of_the_checking_program() {
     let mut random = Random::new(0x52);
-    for _ in 0..300 {
-        let plan = sample(&mut random);
-        let form = smallest(plan.m, &plan.columns);
-        for list in [plan.columns.clone(), scrambled(&mut random, plan.m, &plan.columns), form.clone()] {
-            let lent = places(&mut random, plan.n);
-            compare_smallest(plan.n, plan.n - plan.m, &list, &form, lent);
+    assert_eq!(every_size().len(), 53);
+    for (n, m) in every_size() {
+        for _ in 0..6 {
+            let plan = columns(&mut random, n, m);
+            let form = smallest(m, &plan);
+            for list in [plan.clone(), scrambled(&mut random, m, &plan), form.clone()] {
+                let lent = places(&mut random, n);
+                compare_smallest(n, n - m, &list, &form, lent);
+            }
         }
     }
 }
 
 /// Sizes whose catalogues have at most a few hundred entries: N and M.
 fn sizes() -> Vec<(usize, usize)> {
-    let up_to = [(3, 7), (4, 15), (5, 16), (6, 11), (7, 9)];
-    up_to.iter().flat_map(|&(m, most)| (m..=most).map(move |n| (n, m))).collect()
+    let most = [1, 3, 7, 15, 16, 11, 9];
+    every_size().into_iter().filter(|&(n, m)| n <= most[m - 1]).collect()
+}
+
+/// The whole catalogue of one of these sizes, from which no plan is missing.
+fn whole(n: usize, m: usize) -> Entries {
+    catalogue(n, m, 3, 1_000)
 }
 
 /// The one entry that has the same label as the columns.
@@ -90,8 +103,7 @@ fn entry_of(n: usize, m: usize, entries: &Entries, labels: &[Vec<u32>], columns:
 fn random_plans_reach_one_entry_of_the_catalogue_and_it_is_their_smallest_form() {
     let mut random = Random::new(0x53);
     for (n, m) in sizes() {
-        let (whole, entries) = entries(n, n - m, 3, 1_000);
-        assert!(whole, "{n} factors, {m} basic");
+        let entries = whole(n, m);
         let labels: Vec<Vec<u32>> = entries.iter().map(|entry| label(n, &runs_of_columns(m, entry))).collect();
         for _ in 0..20 {
             let plan = columns(&mut random, n, m);
@@ -106,7 +118,7 @@ fn random_plans_reach_one_entry_of_the_catalogue_and_it_is_their_smallest_form()
 fn the_smallest_form_of_an_entry_is_itself_also_in_other_names_and_basics() {
     let mut random = Random::new(0x54);
     for (n, m) in sizes() {
-        for entry in entries(n, n - m, 3, 1_000).1 {
+        for entry in whole(n, m) {
             compare_smallest(n, n - m, &entry, &entry, (n, n));
             let other = scrambled(&mut random, m, &entry);
             compare_smallest(n, n - m, &other, &entry, (n + 1, n + 2));
@@ -202,7 +214,7 @@ fn sought(random: &mut Random, plan: &Sample, among: &[u32]) -> Sought {
 fn a_smallest_form_is_found_at_its_place_in_the_catalogue() {
     let mut random = Random::new(0x57);
     for (n, m) in sizes() {
-        let entries = entries(n, n - m, 3, 1_000).1;
+        let entries = whole(n, m);
         let among = entries.concat();
         for _ in 0..10 {
             let at = random.below(entries.len());

@@ -3,11 +3,13 @@
 //! Written from the papers and sharing no code with the Rattle crates. A run, a set of factors and a column are numbers: bit f of a run
 //! says that factor f is low, bit f of a set that factor f is in it, bit i of a column that basic factor i enters that factor.
 //! Whether two plans are the same is decided by trying every renaming, and for more than seven factors by canonical labels.
-//! The smallest form is found by trying every order of basic factors.
+//! The smallest form is found by trying every order of basic factors. That no plan is missing from a catalogue is seen by counting sets of
+//! columns.
 
 pub mod bits;
 pub mod book;
 pub mod columns;
+pub mod counting;
 pub mod growth;
 pub mod labels;
 pub mod measures;
