@@ -1,4 +1,4 @@
--- The steps of the tables: a table copied to its second half, the tables of span doubling, the marks of columns, run tables.
+-- The steps of the tables: the tables of span doubling, the marks of columns, run tables.
 use mathlib.Core.Path.{_≡_, refl, sym, ap, ap₂, _∙_, subst}
 use mathlib.Core.Logic.{inl, inr, ⊎-elim, by-cases}
 use mathlib.Core.List.{List}
@@ -14,30 +14,12 @@ use lib.ListN.{length, getD, set, replicate, length-set}
 use lib.Seq.{getD-set-same, getD-set-other}
 use Rattle.gf2.specs.Digits.{bit}
 use Rattle.gf2.specs.Parity.{odd-bit}
+use Rattle.gf2.specs.Doubling.{Doubling, doubling-none, doubling-more}
 use Rattle.gf2.specs.Fill.{zeros}
 use Rattle.regular.specs.Columns.{runOf, RunTable}
 use Rattle.standard.specs.Form.{Repeat}
 use Rattle.standard.specs.Runs.{run-lt, run-zero, run-xor}
-use Rattle.column_forms.specs.Tables.{Copied, Held, Grown, Seen}
-
--- a table copied to its second half
-pub copied-none : (u half : ℕ) (s : List ℕ) → Copied u half 0 s s
-copied-none u half s = record { size = refl; low = λ i h. refl; high = λ i h. absurd (omega arith); past = λ i h. refl }
-
-pub copied-more : (u half k : ℕ) (s t : List ℕ) → k < half → half + k < length t → Copied u half k s t → Copied u half (k + 1) s (set t (half + k) (bitXor (getD t k 0) u))
-copied-more u half k s t hk l c =
-    let v = bitXor (getD t k 0) u in
-    record {
-      size = length-set t (half + k) v ∙ c .size;
-      low = λ i h. getD-set-other t (half + k) i v 0 (λ e. omega arith) ∙ c .low i h;
-      high = λ i h. by-cases (ℕ-discrete i k)
-          (λ e. rw e (getD-set-same t (half + k) v 0 l ∙ ap (λ (x : ℕ). bitXor x u) (c .low k hk)))
-          (λ ne. getD-set-other t (half + k) (half + i) v 0 (λ e. omega arith) ∙ c .high i (omega arith));
-      past = λ i h. getD-set-other t (half + k) i v 0 (λ e. omega arith) ∙ c .past i (omega arith);
-    }
-
-pub copied-all : (u half k : ℕ) (s t : List ℕ) → k ≡ half → Copied u half k s t → Copied u half half s t
-copied-all u half k s t e c = subst (λ (i : ℕ). Copied u half i s t) e c
+use Rattle.column_forms.specs.Tables.{Held, Grown, Seen}
 
 -- the tables of span doubling: one number more
 pub held-more : (F : ℕ → ℕ) (s v : ℕ) (sums places : List ℕ) → v ≡ F s → s < length sums → v < length places → ((i : ℕ) → i < s → F i ≡ F s → ⊥)
@@ -70,7 +52,7 @@ pub grown-none : (c half : ℕ) (s p : List ℕ) → Grown c half 0 s p s p
 grown-none c half s p =
     let e : half ≡ half + 0 = omega arith in
     record {
-      copied = copied-none c half s;
+      doubling = doubling-none c half s;
       wide = refl;
       last = λ i h. absurd (omega arith);
       kept = λ v h. refl;
@@ -81,9 +63,9 @@ pub grown-more : (c half k z : ℕ) (s p sums places : List ℕ) → k < half �
     → Grown c half k s p sums places → Grown c half (k + 1) s p (set sums (half + k) (bitXor (getD sums k 0) c)) (set places z (half + k + 1))
 grown-more c half k z s p sums places hk ls q lp g =
     let v = bitXor (getD sums k 0) c in
-    let at : bitXor (getD s k 0) c ≡ z = ap (λ (x : ℕ). bitXor x c) (sym (g .copied .low k hk)) ∙ sym q in
+    let at : bitXor (getD s k 0) c ≡ z = ap (λ (x : ℕ). bitXor x c) (sym (g .doubling .low k hk)) ∙ sym q in
     record {
-      copied = copied-more c half k s sums hk ls (g .copied);
+      doubling = doubling-more c half k s sums hk ls (g .doubling);
       wide = length-set places z (half + k + 1) ∙ g .wide;
       last = λ i h none. by-cases (ℕ-discrete i k)
           (λ e. rw (e, at) (getD-set-same places z (half + k + 1) 0 lp))
@@ -164,7 +146,7 @@ runs-none n c =
       unused = λ j h. zeros 128 j;
     }
 
-pub runs-more : (n d : ℕ) (c s t : List ℕ) (u half : ℕ) → half ≡ 2 ^ d → u ≡ runOf c n (2 ^ d) → RunTable n d c s → Copied u half half s t → RunTable n (d + 1) c t
+pub runs-more : (n d : ℕ) (c s t : List ℕ) (u half : ℕ) → half ≡ 2 ^ d → u ≡ runOf c n (2 ^ d) → RunTable n d c s → Doubling u half half s t → RunTable n (d + 1) c t
 runs-more n d c s t u half e p r o =
     let tw : 2 ^ (d + 1) ≡ half + half = rw (add-one d) (omega (arith, two-pow-succ d)) in
     record {

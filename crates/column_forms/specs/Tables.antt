@@ -1,19 +1,13 @@
--- What tables hold while they are filled: a table copied to its second half, the two tables of span doubling, the marks of columns.
+-- What tables hold while they are filled: the two tables of span doubling, the marks of columns.
 -- Definitions only.
 use mathlib.Core.Path.{_≡_}
 use mathlib.Core.Logic.{_⊎_}
 use mathlib.Core.List.{List}
-use Prim.Native.Nat.{ℕ, _+_, _<_, _≤_}
+use Prim.Native.Nat.{ℕ, _+_, _<_}
 use lib.Bits.{bitXor}
 use lib.ListN.{length, getD}
+use Rattle.gf2.specs.Doubling.{Doubling}
 use Rattle.standard.specs.Form.{Plain}
-
--- t is s with its first k places, u exclusive-or, written from place half on
-pub record Copied (u half k : ℕ) (s t : List ℕ) : Type 0 where
-  pub size : length t ≡ length s
-  pub low : (i : ℕ) → i < half → getD t i 0 ≡ getD s i 0
-  pub high : (i : ℕ) → i < k → getD t (half + i) 0 ≡ bitXor (getD s i 0) u
-  pub past : (i : ℕ) → half + k ≤ i → getD t i 0 ≡ getD s i 0
 
 -- sums holds F at each place below s, and places is its inverse: one more than the place of a number that is there, 0 for any other number
 pub record Held (F : ℕ → ℕ) (s : ℕ) (sums places : List ℕ) : Type 0 where
@@ -29,7 +23,7 @@ pub record Doubles (F : ℕ → ℕ) (c half : ℕ) : Type 0 where
 -- the two tables, at first s and p, with k sums more: a place in `places` is that of the last such sum, if it is one, and as it was if not.
 -- So whatever F they held below half, they hold it below half + k
 pub record Grown (c half k : ℕ) (s p sums places : List ℕ) : Type 0 where
-  pub copied : Copied c half k s sums
+  pub doubling : Doubling c half k s sums
   pub wide : length places ≡ length p
   pub last : (i : ℕ) → i < k → ((j : ℕ) → i < j → j < k → bitXor (getD s j 0) c ≡ bitXor (getD s i 0) c → ⊥) → getD places (bitXor (getD s i 0) c) 0 ≡ half + i + 1
   pub kept : (v : ℕ) → ((i : ℕ) → i < k → bitXor (getD s i 0) c ≡ v → ⊥) → getD places v 0 ≡ getD p v 0

@@ -3,10 +3,11 @@ ghost use mathlib.Core.Path.{_≡_};
 ghost use mathlib.Core.Bool.{true, false};
 ghost use Prim.Native.Nat.{ℕ, _^_, _<_, _≤_};
 ghost use lib.ListN.{length, getD};
+ghost use Rattle.gf2.specs.Doubling.{Doubling};
 ghost use Rattle.regular.specs.Columns.{planOf, Below, Spans, RunTable, runOf};
 ghost use Rattle.standard.specs.Form.{Plain, Repeat};
 ghost use Rattle.standard.specs.Finding.{Found};
-ghost use Rattle.column_forms.specs.Tables.{Copied, Grown};
+ghost use Rattle.column_forms.specs.Tables.{Grown};
 use regular::Standardized;
 
 // Twice as many sums of columns, by the column c: place half + k holds the sum at place k with c, and places finds it again.
@@ -96,7 +97,7 @@ fn unit_run(n: usize, d: usize, cols: [u8; 16]) -> u16
 // Twice as many runs, by the run u: place half + k holds the run at place k exclusive-or u.
 fn copy_runs(u: u16, half: usize, t: &mut [u16; 128])
     requires { ⌜ (half ≤ 64) × (length (now t) ≡ 128) ⌝ }
-    ensures { λ _. ⌜ Copied u half half (now (t .entry)) (now (t .exit)) ⌝ }
+    ensures { λ _. ⌜ Doubling u half half (now (t .entry)) (now (t .exit)) ⌝ }
 {
     let mut k: usize = 0;
     while k < half {

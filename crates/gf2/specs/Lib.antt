@@ -11,3 +11,4 @@ pub mod Sums
 pub mod Counts
 pub mod Letters
 pub mod Fill
+pub mod Doubling

@@ -3,20 +3,19 @@ use mathlib.Core.Path.{_≡_}
 use Prim.Native.Nat.{_-_, _≤_}
 use native.Mathlib.Omega.{arith}
 use lib.ListN.{length}
-use Rattle.column_forms.specs.Tables.{Copied}
-use Rattle.column_forms.specs.TableLaws.{copied-none, copied-more, copied-all}
+use Rattle.gf2.specs.Doubling.{Doubling, doubling-none, doubling-more, doubling-all}
 use borrow.Author.Needs.{needs}
 use Rattle.column_forms.proofs.copy_runs.Statement.{statement}
 use Rattle.column_forms.proofs.copy_runs.Tie as tie
 
 abbrev Inv-loop : tie.InvT-loop
-Inv-loop u half t₀ k₀ t k = (k ≤ half) × (length t ≡ 128) × Copied u half k t₀ t
+Inv-loop u half t₀ k₀ t k = (k ≤ half) × (length t ≡ 128) × Doubling u half k t₀ t
 
 abbrev μ-loop : tie.MeasureT-loop
 μ-loop u half t₀ k₀ t k = half - k
 
 loop-holds : tie.Need-loop-holds Inv-loop μ-loop
-loop-holds c = (omega arith, c .pre .1, copied-none _ _ _)
+loop-holds c = (omega arith, c .pre .1, doubling-none _ _ _)
 
 mul-x : tie.Need-mul-x Inv-loop μ-loop
 mul-x c = search needs
@@ -43,12 +42,12 @@ loop-again : tie.Need-loop-again Inv-loop μ-loop
 loop-again c =
     let at = c .before .before in
     let i = at .loop .inv in
-    (omega arith, search needs, copied-more _ _ _ _ _ (omega arith) (omega arith) (i .2))
+    (omega arith, search needs, doubling-more _ _ _ _ _ (omega arith) (omega arith) (i .2))
 
 returns : tie.Need-returns Inv-loop μ-loop
 returns c =
     let at = c .before in
-    copied-all _ _ _ _ _ (omega arith) (at .loop .inv .2)
+    doubling-all _ _ _ _ _ (omega arith) (omega arith) (at .loop .inv .2)
 
 pub copy-runs-spec : {M : Type 1} → statement M
 copy-runs-spec =

@@ -97,7 +97,7 @@ loop-again-2 c =
     let g = c .double .ensures in (
       omega arith,
       search needs,
-      g .copied .size ∙ i .2,
+      g .doubling .size ∙ i .2,
       g .wide ∙ i .3,
       walk-new _ _ _ _ _ _ _ _ (i .4) (omega arith) (at .before .pre .2) (omega arith) _ (o .before .wide-byte .ensures .0) (o .if1 .left) _ _ g,
     )
