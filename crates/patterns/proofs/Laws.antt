@@ -11,9 +11,10 @@ use native.Mathlib.Decide.{ℕ-discrete, decLt}
 use borrow.Author.Tests.{ltb-true, ltb-false}
 use lib.Bits.{bitXor}
 use lib.Dec.{ltb}
-use lib.ListN.{length, getD, set, replicate, length-set, List·getD-eq-default}
+use lib.ListN.{getD, set, replicate, length-set, List·getD-eq-default}
 use lib.Pow.{pow-mono, shl-exact}
 use lib.Seq.{getD-set-same, getD-set-other}
+use Rattle.gf2.specs.Doubling.{Doubling}
 use Rattle.gf2.specs.Fill.{zeros}
 use Rattle.counts.specs.Models.{PatternModel, DistanceModel, firstLength}
 use Rattle.counts.specs.Resolutions.{first-none, first-here, first-kept}
@@ -21,48 +22,27 @@ use Rattle.counts.specs.Tally.{tally, tally-start, tally-hit, tally-miss, tally
 use Rattle.regular.specs.Pattern.{Better, ofLength}
 use Rattle.regular.specs.Words.{letters, total}
 use Rattle.standard.specs.Total.{total-more, total-next}
-use Rattle.patterns.specs.Steps.{Doubled, Products, LetterCounts, FromOne}
-
--- the second half
-module _ (half w : ℕ) (t : List ℕ) where
-  pub doubled-none : length t ≡ 2048 → Doubled half w 0 t t
-  doubled-none h = record { places = h; kept = λ i l. refl; made = λ i l. absurd (omega arith) }
-
-  pub doubled-more : (k : ℕ) (u : List ℕ) → k < half → half ≤ 1024 → Doubled half w k t u → Doubled half w (k + 1) t (set u (half + k) (bitXor (getD u k 0) w))
-  doubled-more k u hk hh d =
-      let x = bitXor (getD u k 0) w in
-      let p = d .places in
-      record {
-        places = length-set u (half + k) x ∙ p;
-        kept = λ i l. getD-set-other u (half + k) i x 0 (λ e. omega arith) ∙ d .kept i l;
-        made = λ i l. by-cases (ℕ-discrete i k)
-            (λ e. ap (λ (j : ℕ). getD (set u (half + k) x) (half + j) 0) e ∙ getD-set-same u (half + k) x 0 (omega arith)
-            ∙ ap (λ (y : ℕ). bitXor y w) (d .kept k hk ∙ ap (λ (j : ℕ). getD t j 0) (sym e)))
-            (λ ne. getD-set-other u (half + k) (half + i) x 0 (λ e. omega arith) ∙ d .made i (omega arith));
-      }
-
-  pub doubled-all : (k : ℕ) (u : List ℕ) → k ≤ half → half ≤ k → Doubled half w k t u → Doubled half w half t u
-  doubled-all k u p q d = let e : k ≡ half = omega arith in subst (λ (j : ℕ). Doubled half w j t u) e d
+use Rattle.patterns.specs.Steps.{Products, LetterCounts, FromOne}
 
 -- the products
 pub products-none : (ws : List ℕ) → Products 0 ws (replicate 2048 0)
 unfolding total
 products-none ws = record { places = refl; product = λ t h. zeros 2048 t }
 
-pub products-more : (d half : ℕ) (ws u v : List ℕ) → half ≡ 2 ^ d → Products d ws u → Doubled half (getD ws d 0) half u v → Products (d + 1) ws v
+pub products-more : (d half : ℕ) (ws u v : List ℕ) → half ≡ 2 ^ d → Products d ws u → Doubling (getD ws d 0) half half u v → Products (d + 1) ws v
 products-more d half ws u v e p b =
     subst (λ (k : ℕ). Products k ws v) (sym (add-one d))
     (record {
-      places = b .places;
+      places = b .size ∙ p .places;
       product = λ t h. by-cases (decLt t (2 ^ d))
-          (λ l. b .kept t (omega arith) ∙ p .product t l ∙ sym (total-more ws d (suc d) t (omega arith) l))
+          (λ l. b .low t (omega arith) ∙ p .product t l ∙ sym (total-more ws d (suc d) t (omega arith) l))
           (λ l.
           let i = t - half in
           let li : i < 2 ^ d = omega (arith, two-pow-succ d) in
           let ti : t ≡ half + i = omega arith in
           let tn : t ≡ 1 * 2 ^ d + i = omega arith in
           let w1 : getD ws d 0 * 1 ≡ getD ws d 0 = omega arith in
-          ap (λ (j : ℕ). getD v j 0) ti ∙ b .made i (omega arith) ∙ ap (λ (y : ℕ). bitXor y (getD ws d 0)) (p .product i li)
+          ap (λ (j : ℕ). getD v j 0) ti ∙ b .high i (omega arith) ∙ ap (λ (y : ℕ). bitXor y (getD ws d 0)) (p .product i li)
           ∙ sym (ap (total ws (suc d)) tn ∙ total-next ws d 1 i (omega arith) li ∙ ap (bitXor (total ws d i)) w1));
     })
 

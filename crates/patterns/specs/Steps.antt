@@ -1,17 +1,10 @@
 -- What the inner functions of the crate answer: tables of products and of letter counts. Definitions only.
-use Prim.Native.Nat.{ℕ, suc, _+_, _^_, _≤_, _<_}
+use Prim.Native.Nat.{ℕ, suc, _^_, _≤_, _<_}
 use mathlib.Core.Path.{_≡_}
 use mathlib.Core.List.{List}
-use lib.Bits.{bitXor}
 use lib.ListN.{length, getD}
 use Rattle.counts.specs.Tally.{tally}
 use Rattle.regular.specs.Words.{letters, total}
-
--- the first k places of the second half hold those of the first half with w
-pub record Doubled (half w k : ℕ) (before after : List ℕ) : Type 0 where
-  pub places : length after ≡ 2048
-  pub kept : (i : ℕ) → i < half → getD after i 0 ≡ getD before i 0
-  pub made : (i : ℕ) → i < k → getD after (half + i) 0 ≡ bitXor (getD before i 0) w
 
 -- the products of the first g words, that of the words at the bits of t at place t
 pub record Products (g : ℕ) (ws sums : List ℕ) : Type 0 where

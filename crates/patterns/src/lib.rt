@@ -4,14 +4,15 @@ ghost use mathlib.Core.Bool.{true, false};
 ghost use mathlib.Core.Path.{_≡_};
 ghost use Prim.Native.Nat.{_≤_};
 ghost use lib.ListN.{length};
+ghost use Rattle.gf2.specs.Doubling.{Doubling};
 ghost use Rattle.regular.specs.Pattern.{Better};
 ghost use Rattle.counts.specs.Models.{PatternModel, DistanceModel, firstLength};
-ghost use Rattle.patterns.specs.Steps.{Doubled, Products, LetterCounts, FromOne};
+ghost use Rattle.patterns.specs.Steps.{Products, LetterCounts, FromOne};
 
 // Puts each of the first half numbers, with w, half places further.
 fn double(sums: &mut [u16; 2048], half: usize, w: u16)
     requires { ⌜ (half ≤ 1024) × (length (now sums) ≡ 2048) ⌝ }
-    ensures { λ _. ⌜ Doubled half w half (now (sums .entry)) (now (sums .exit)) ⌝ }
+    ensures { λ _. ⌜ Doubling w half half (now (sums .entry)) (now (sums .exit)) ⌝ }
 {
     let mut k: usize = 0;
     while k < half {

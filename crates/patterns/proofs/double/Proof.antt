@@ -2,20 +2,21 @@
 -- what is left of the half. Assumes nothing.
 use Prim.Native.Nat.{_-_, _≤_}
 use native.Mathlib.Omega.{arith}
-use Rattle.patterns.specs.Steps.{Doubled}
-use Rattle.patterns.proofs.Laws.{doubled-none, doubled-more, doubled-all}
+use mathlib.Core.Path.{_≡_}
+use lib.ListN.{length}
+use Rattle.gf2.specs.Doubling.{Doubling, doubling-none, doubling-more, doubling-all}
 use borrow.Author.Needs.{needs}
 use Rattle.patterns.proofs.double.Statement.{statement}
 use Rattle.patterns.proofs.double.Tie as tie
 
 abbrev Inv-loop : tie.InvT-loop
-Inv-loop sums₀ half w k₀ sums k = (k ≤ half) × Doubled half w k sums₀ sums
+Inv-loop sums₀ half w k₀ sums k = (k ≤ half) × (length sums ≡ 2048) × Doubling w half k sums₀ sums
 
 abbrev μ-loop : tie.MeasureT-loop
 μ-loop sums₀ half w k₀ sums k = half - k
 
 loop-holds : tie.Need-loop-holds Inv-loop μ-loop
-loop-holds c = (omega arith, doubled-none _ _ _ (c .pre .1))
+loop-holds c = (omega arith, c .pre .1, doubling-none _ _ _)
 
 mul-s : tie.Need-mul-s Inv-loop μ-loop
 mul-s c = search needs
@@ -41,12 +42,12 @@ loop-less c = search needs
 loop-again : tie.Need-loop-again Inv-loop μ-loop
 loop-again c =
     let at = c .before .before in
-    (omega arith, doubled-more _ _ _ (at .loop .k) _ (omega arith) (omega arith) (at .loop .inv .1))
+    (omega arith, search needs, doubling-more _ _ _ _ _ (omega arith) (omega arith) (at .loop .inv .2))
 
 returns : tie.Need-returns Inv-loop μ-loop
 returns c =
     let at = c .before in
-    doubled-all _ _ _ (at .loop .k) _ (omega arith) (omega arith) (at .loop .inv .1)
+    doubling-all _ _ _ _ _ (omega arith) (omega arith) (at .loop .inv .2)
 
 pub double-spec : {M : Type 1} → statement M
 double-spec =
