@@ -159,7 +159,8 @@ fn count(n: usize, m: usize, r: usize) -> usize {
 /// The same of a size whose entries take long to confirm: some of them are.
 fn count_by_some(n: usize, m: usize, r: usize) -> usize {
     let (whole, entries) = entries(n, n - m, r, 10_000);
-    assert!(whole && entries.is_sorted_by(|one, next| one < next) && entries.iter().all(|entry| no_word_below(r, entry)));
+    assert!(whole && entries.is_sorted_by(|one, next| one < next), "{n} {} {r}", n - m);
+    assert!(entries.iter().all(|entry| no_word_below(r, entry)), "{n} {} {r}", n - m);
     let some: Vec<Vec<u32>> = entries.iter().step_by(40).cloned().collect();
     confirm_entries(m, r, &some);
     entries.len()
