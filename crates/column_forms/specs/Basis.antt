@@ -1,5 +1,4 @@
--- Independent columns: no number is a sum of them in two ways, they are no more than the bits of their numbers, and one more may join them.
--- With as many as bits, every number is a sum of them.
+-- Independent columns: they are no more than the bits of their numbers, columns that reach every number are no fewer, and one more may join them.
 use mathlib.Core.Path.{_≡_, refl, sym, ap, ap₂, _∙_, subst}
 use mathlib.Core.Logic.{by-cases}
 use mathlib.Core.List.{List, [], _∷_, _++_}
@@ -14,21 +13,11 @@ use lib.Seq.{getD-at}
 use Rattle.gf2.specs.DigitLaws.{xor-none, pow-le-inv}
 use Rattle.gf2.specs.Digits.{odd}
 use Rattle.gf2.specs.Lists.{upto, upto-in, upto-lt, upto-length, upto-different, listTo, to-length, in-to, of-to, to-different, fewer}
-use Rattle.gf2.specs.Members.{In, pigeon}
-use Rattle.regular.specs.Columns.{runOf, Below, Spans}
+use Rattle.gf2.specs.Members.{In}
+use Rattle.regular.specs.Columns.{runOf, Below}
 use Rattle.regular.specs.Words.{total, Independent}
-use Rattle.standard.specs.FromColumns.{spans-apart, apart-inj}
-use Rattle.standard.specs.Runs.{run-lt, total-lt, odd-total}
+use Rattle.standard.specs.Runs.{total-lt, odd-total}
 use Rattle.standard.specs.Total.{total-cols, total-none, total-next, total-more, InSpan, independent-once}
-
--- a one-to-one map of the numbers below k to numbers below k reaches each of them
-onto-self : (F : ℕ → ℕ) (k : ℕ) → ((i : ℕ) → i < k → F i < k) → ((i j : ℕ) → i < k → j < k → F i ≡ F j → i ≡ j)
-    → (v : ℕ) → v < k → (i : ℕ) × ((i < k) × (v ≡ F i))
-onto-self F k lt inj v h =
-    of-to F k v
-    (pigeon (listTo F k) (upto k) (to-different F k inj)
-    (λ z m. let r = of-to F k z m in upto-in k z (omega (arith, lt (r .0) (r .1 .0), r .1 .1)))
-    (omega (arith, to-length F k, upto-length k)) v (upto-in k v h))
 
 -- independent columns are at most as many as their bits
 pub independent-few : (r m : ℕ) (t : List ℕ) → Independent r t → Below r m t → r ≤ m
@@ -41,12 +30,6 @@ independent-few r m t ind b =
       fewer (listTo (total t r) (2 ^ r)) (upto (2 ^ m)) (to-different (total t r) (2 ^ r) (independent-once r t ind))
           (λ z m0. let o = of-to (total t r) (2 ^ r) z m0 in upto-in (2 ^ m) z (omega (arith, o .1 .1, total-lt t r m (o .0) b))),
     ))
-
--- .. and as many as their bits reach every number
-pub independent-spans : (m : ℕ) (t : List ℕ) → Independent m t → Below m m t → Spans m m t
-independent-spans m t ind b v h =
-    let r = onto-self (total t m) (2 ^ m) (λ i l. total-lt t m m i b) (independent-once m t ind) v h in
-    (r .0, (r .1 .0, sym (r .1 .1)))
 
 -- columns that reach every number are no fewer than the bits
 pub spans-many : (r m : ℕ) (t : List ℕ) → ((v : ℕ) → v < 2 ^ m → InSpan t r v) → m ≤ r
@@ -103,7 +86,3 @@ run-through t r a c zero j h = refl
 run-through t r a c (suc n) j h =
     ap₂ (λ (x d : ℕ). x + d * 2 ^ n) (run-through t r a c n j (λ f l. h f (omega arith)))
     (ap (odd j) (sym (h n (omega arith))) ∙ odd-total t r j (getD a n 0))
-
--- the runs of m columns of rank m are all numbers of m bits
-pub runs-all : (m : ℕ) (t : List ℕ) → Spans m m t → (v : ℕ) → v < 2 ^ m → (j : ℕ) × ((j < 2 ^ m) × (v ≡ runOf t m j))
-runs-all m t sp = onto-self (runOf t m) (2 ^ m) (λ j l. run-lt t m j) (apart-inj m m t (spans-apart m m t sp))

@@ -3,7 +3,6 @@ use mathlib.Core.Path.{_≡_, refl, sym, ap, ap₂, _∙_, subst}
 use mathlib.Core.Logic.{inl, inr, ⊎-elim, by-cases}
 use mathlib.Core.List.{List}
 use Prim.Native.Nat.{ℕ, _+_, _-_, _*_, _%_, _^_, _<_}
-use native.Mathlib.Nat.{two-pow-succ}
 use native.Mathlib.Numerals.{add-one}
 use native.Mathlib.Omega.{arith}
 use native.Mathlib.Decide.{ℕ-discrete, decLt}
@@ -16,6 +15,7 @@ use Rattle.gf2.specs.Digits.{bit}
 use Rattle.gf2.specs.Parity.{odd-bit}
 use Rattle.gf2.specs.Doubling.{Doubling, doubling-none, doubling-more}
 use Rattle.gf2.specs.Fill.{zeros}
+use Rattle.gf2.specs.DigitLaws.{pow-twice}
 use Rattle.regular.specs.Columns.{runOf, RunTable}
 use Rattle.standard.specs.Form.{Repeat}
 use Rattle.standard.specs.Runs.{run-lt, run-zero, run-xor}
@@ -148,7 +148,7 @@ runs-none n c =
 
 pub runs-more : (n d : ℕ) (c s t : List ℕ) (u half : ℕ) → half ≡ 2 ^ d → u ≡ runOf c n (2 ^ d) → RunTable n d c s → Doubling u half half s t → RunTable n (d + 1) c t
 runs-more n d c s t u half e p r o =
-    let tw : 2 ^ (d + 1) ≡ half + half = rw (add-one d) (omega (arith, two-pow-succ d)) in
+    let tw = pow-twice d half e in
     record {
       places = o .size ∙ r .places;
       run = λ j h. by-cases (decLt j half)

@@ -10,10 +10,10 @@ use native.Mathlib.Omega.{arith}
 use native.Mathlib.Decide.{ℕ-discrete}
 use borrow.Author.Tests.{ne-eqb}
 use lib.Bits.{bitXor}
-use lib.Pow.{pow-pos, pow-mono}
+use lib.Pow.{pow-pos}
 use lib.ListN.{length, getD, set, replicate, length-append}
 use lib.Seq.{getD-set-same}
-use Rattle.gf2.specs.DigitLaws.{pow-inj}
+use Rattle.gf2.specs.DigitLaws.{pow-inj, pow-most, pow-half}
 use Rattle.gf2.specs.Fill.{zeros}
 use Rattle.regular.specs.Columns.{runOf, planOf, Below, Spans}
 use Rattle.regular.specs.Words.{total, Independent}
@@ -23,9 +23,10 @@ use Rattle.standard.specs.Runs.{run-lt, total-lt}
 use Rattle.standard.specs.Total.{total-none, InSpan, span-at, span-total, independent-once}
 use Rattle.standard.specs.Units.{units-next}
 use Rattle.standard.specs.NextColumn.{set-units, set-column, set-next, set-unused}
+use Rattle.standard.specs.FromColumns.{independent-spans, runs-all}
 use Rattle.column_forms.specs.Tables.{Held, Doubles, Grown}
 use Rattle.column_forms.specs.TableLaws.{held-more, held-same}
-use Rattle.column_forms.specs.Basis.{independent-few, independent-spans, spans-many, more-old, more-new, more-low, more-high, more-unit, more-independent, run-through, runs-all}
+use Rattle.column_forms.specs.Basis.{independent-few, spans-many, more-old, more-new, more-low, more-high, more-unit, more-independent, run-through}
 
 -- after f of the n columns c: the basis has the columns that were no sum of those before them, in their order; sums holds what it reaches,
 -- half numbers, and places finds them again; a has the standard columns so far, each taken by the basis to the column of c
@@ -82,7 +83,7 @@ module _ (n m : ℕ) (c : List ℕ) (f half : ℕ) (sums places a : List ℕ) (w
   -- the sums fit their table of places
   pub walk-sums : Below n m c → m ≤ 7 → (k : ℕ) → k < half → getD sums k 0 < 128
   walk-sums b hm k h =
-      omega (arith, w .held .filled k h, total-lt (w .basis) (w .rank) m k (basis-below b), pow-mono {i = m} {j = 7} hm)
+      omega (arith, w .held .filled k h, total-lt (w .basis) (w .rank) m k (basis-below b), pow-most m hm)
 
 module _ (n m : ℕ) (c : List ℕ) (f half : ℕ) (sums places a : List ℕ) (w : Walk n m c f half sums places a) (l : f < length a) where
   -- the next column is a sum of the basis: its place is the standard column
@@ -134,7 +135,7 @@ module _ (n m : ℕ) (c : List ℕ) (f half : ℕ) (sums places a : List ℕ) (w
 
     -- there is room for twice as many sums
     pub walk-room : m ≤ 7 → half ≤ 64
-    walk-room h = omega (arith, w .size, pow-mono {i = w .rank} {j = 6} (omega (arith, wider-most)))
+    walk-room h = omega (arith, w .size, pow-half (w .rank) m wider-most h)
 
     doubles : Doubles (total wider (suc (w .rank))) (getD c f 0) half
     doubles =
@@ -207,7 +208,7 @@ module _ (n m : ℕ) (c : List ℕ) (half : ℕ) (sums places a : List ℕ) (bel
             into = λ x p. (runOf (w .basis) m (p .0), (run-lt (w .basis) m (p .0), p .1 .1 ∙ through (p .0)));
             onto = λ x p.
                 let r = runs-all m (w .basis) basis-spans (p .0) (p .1 .0) in
-                (r .0, (r .1 .0, p .1 .1 ∙ ap (runOf a n) (r .1 .1) ∙ sym (through (r .0))));
+                (r .0, (r .1 .0, p .1 .1 ∙ ap (runOf a n) (sym (r .1 .1)) ∙ sym (through (r .0))));
           };
         }
 

@@ -5,7 +5,7 @@ use Prim.Native.Nat.{ℕ, _^_, _≤_, _<_}
 use lib.Bits.{bitXor, xor-zero-r}
 use lib.ListN.{getD}
 use Rattle.gf2.specs.Counts.{Count, count-same, count-image, count-unique}
-use Rattle.gf2.specs.DigitLaws.{xor-back}
+use Rattle.gf2.specs.DigitLaws.{xor-back, xor-cancel}
 use Rattle.regular.specs.Columns.{runOf, planOf, RunTable}
 use Rattle.regular.specs.Pattern.{Distances}
 use Rattle.regular.specs.Runs.{Runs, Regular}
@@ -28,8 +28,7 @@ module _ (s : Runs) (regular : Regular s) (r t : ℕ) (hr : s r) (ht : s t) wher
   moved-back y = sym (ap (λ (z : ℕ). bitXor z t) (xor-back (bitXor y t) r) ∙ xor-back y t)
 
   moved-once : (x y : ℕ) → moved x ≡ moved y → x ≡ y
-  moved-once x y e =
-      sym (xor-back x r) ∙ ap (λ (z : ℕ). bitXor z r) (sym (xor-back (bitXor x r) t) ∙ ap (λ (z : ℕ). bitXor z t) e ∙ xor-back (bitXor y r) t) ∙ xor-back y r
+  moved-once x y e = xor-cancel x y r (xor-cancel (bitXor x r) (bitXor y r) t e)
 
   pub distances-any-run : (n : ℕ) (d : List ℕ) → Distances n s r d → Distances n s t d
   distances-any-run n d h = record {

@@ -3,7 +3,7 @@ use mathlib.Core.Path.{_≡_, refl, sym, ap, ap₂, _∙_}
 use mathlib.Core.Logic.{by-cases}
 use mathlib.Core.List.{List, [], _∷_, _++_}
 use Prim.Native.Nat.{ℕ, _+_, _-_, _*_, _^_, _≤_, _<_}
-use native.Mathlib.Nat.{two-pow-succ, mul-comm}
+use native.Mathlib.Nat.{mul-comm}
 use native.Mathlib.Numerals.{add-one}
 use native.Mathlib.Omega.{arith}
 use native.Mathlib.Decide.{ℕ-discrete, decLt}
@@ -13,6 +13,7 @@ use lib.ListN.{length, getD, set, length-set, replicate, length-append, List·ge
 use lib.Seq.{getD-set-same, getD-set-other, getD-at}
 use Rattle.gf2.specs.Digits.{bit}
 use Rattle.gf2.specs.Fill.{zeros}
+use Rattle.gf2.specs.DigitLaws.{pow-twice}
 use Rattle.regular.specs.Words.{total}
 use Rattle.standard.specs.Form.{unitsBefore}
 use Rattle.standard.specs.Units.{spread, unitsAt, unitary}
@@ -80,7 +81,7 @@ module _ (a : List ℕ) (f m unit : ℕ) (basics words : List ℕ) (hf : f < 16)
       (record {
         count = rw t (omega (arith, w .count));
         few = omega arith;
-        next = omega (arith, w .next, two-pow-succ m, ap (λ (k : ℕ). 2 ^ k) (add-one m));
+        next = pow-twice m _ (w .next);
         basics-size = length-set basics m v ∙ size;
         words-size = w .words-size;
         placed = rw t (

@@ -1,14 +1,14 @@
 -- Laws of digits and of exclusive-or: digit by digit, associative, extensional. Parity has its own file.
 use mathlib.Core.Path.{_≡_, refl, sym, ap, _∙_}
 use Prim.Native.Nat.{ℕ, zero, suc, _+_, _-_, _*_, _/_, _%_, _^_, _≤_, _<_}
-use native.Mathlib.Nat.{mod-eq-of-lt, zero-div}
+use native.Mathlib.Nat.{mod-eq-of-lt, zero-div, two-pow-succ, div-self}
 use native.Mathlib.Omega.{arith}
-use native.Mathlib.Numerals.{one-add}
-use native.Mathlib.Decide.{decLe}
-use mathlib.Core.Logic.{by-cases}
+use native.Mathlib.Numerals.{one-add, add-one}
+use native.Mathlib.Decide.{decLe, decLt}
+use mathlib.Core.Logic.{by-cases, _≢_}
 use lib.Bits.{bitXor, differ, xor-step, xor-shr, xor-lt, xor-self, xor-zero-l, xor-zero-r, xor-comm, xor-shifted, shifted-half, shifted-even}
 use lib.Arith.{bin-ind, digits-div}
-use lib.Pow.{shr-shr, pow-lt, pow-pos}
+use lib.Pow.{shr-shr, pow-lt, pow-pos, pow-mono}
 use Rattle.gf2.specs.Digits.{bit}
 
 -- the digit of a sum without carry
@@ -43,8 +43,15 @@ xor-assoc = bin-ind (λ (n : ℕ). (b c : ℕ) → bitXor (bitXor n b) c ≡ bit
 pub xor-back : (x r : ℕ) → bitXor (bitXor x r) r ≡ x
 xor-back x r = xor-assoc x r r ∙ ap (bitXor x) (xor-self r) ∙ xor-zero-r x
 
+-- a term moves to the other side; one on both sides cancels
+pub xor-move : (x r v : ℕ) → bitXor x r ≡ v → x ≡ bitXor v r
+xor-move x r v e = sym (xor-back x r) ∙ ap (λ (y : ℕ). bitXor y r) e
+
+pub xor-cancel : (x y r : ℕ) → bitXor x r ≡ bitXor y r → x ≡ y
+xor-cancel x y r e = xor-move x r (bitXor y r) e ∙ xor-back y r
+
 pub xor-none : (a b : ℕ) → bitXor a b ≡ 0 → a ≡ b
-xor-none a b e = sym (xor-back a b) ∙ ap (λ (x : ℕ). bitXor x b) e ∙ xor-zero-l b
+xor-none a b e = xor-move a b 0 e ∙ xor-zero-l b
 
 -- two sums, regrouped
 pub xor-4 : (a b c d : ℕ) → bitXor (bitXor a b) (bitXor c d) ≡ bitXor (bitXor a c) (bitXor b d)
@@ -85,6 +92,24 @@ bit-top n d r h l = ap (λ (y : ℕ). y % 2) (digits-div d {m = 2 ^ n} {r = r} l
 pub bit-over : (n r : ℕ) → r < 2 ^ n → bit n r ≡ 0
 bit-over n r l = let e : r ≡ 0 * 2 ^ n + r = omega arith in ap (λ (y : ℕ). bit n y) e ∙ bit-top n 0 r (omega arith) l
 
+-- a digit put at the place f stands there alone
+pub bit-unit : (e f d : ℕ) → d < 2 → e ≢ f → bit e (d * 2 ^ f) ≡ 0
+bit-unit e f d h ne =
+    by-cases (decLt e f)
+    (λ l. bit-past e f d l)
+    (λ l. bit-over e (d * 2 ^ f) (unit-lt d h (pow-lt {i = f} {j = e} (omega arith))))
+  where
+    unit-lt : (c : ℕ) → c < 2 → 2 ^ f < 2 ^ e → c * 2 ^ f < 2 ^ e
+    unit-lt zero k l = omega arith
+    unit-lt (suc zero) k l = omega arith
+    unit-lt (suc (suc c)) k l = absurd (omega arith)
+
+pub bit-own : (f : ℕ) → bit f (2 ^ f) ≡ 1
+bit-own f = ap (λ (y : ℕ). y % 2) (div-self (pow-pos f))
+
+pub bit-other : (e f : ℕ) → e ≢ f → bit e (2 ^ f) ≡ 0
+bit-other e f ne = let q : 2 ^ f ≡ 1 * 2 ^ f = omega arith in ap (λ (y : ℕ). bit e y) q ∙ bit-unit e f 1 (omega arith) ne
+
 -- every digit of 2^k - 1 is set
 pub bit-full : (k i : ℕ) → i < k → bit i (2 ^ k - 1) ≡ 1
 bit-full zero i h = absurd (omega arith)
@@ -103,7 +128,16 @@ sum-cancel a b c ha hb e = omega arith
 pub xor-digit : (x y : ℕ) → x < 2 → y < 2 → bitXor x y ≡ (x + y) % 2
 xor-digit x y hx hy = sym (mod-eq-of-lt (xor-lt 1 x y hx hy)) ∙ xor-low x y ∙ mod-sum x y
 
--- powers of two
+-- powers of two: the number of runs of seven basic factors, half of it, and twice a power
+pub pow-most : (m : ℕ) → m ≤ 7 → 2 ^ m ≤ 128
+pow-most m h = pow-mono {i = m} {j = 7} h
+
+pub pow-half : (d m : ℕ) → d < m → m ≤ 7 → 2 ^ d ≤ 64
+pow-half d m h few = pow-mono {i = d} {j = 6} (omega arith)
+
+pub pow-twice : (d h : ℕ) → h ≡ 2 ^ d → h + h ≡ 2 ^ (d + 1)
+pow-twice d h e = rw (add-one d) (omega (arith, two-pow-succ d))
+
 pub pow-le-inv : (a b : ℕ) → 2 ^ a ≤ 2 ^ b → a ≤ b
 pow-le-inv a b h = by-cases (decLe a b) (λ l. l) (λ l. absurd (let g : 2 ^ b < 2 ^ a = pow-lt {i = b} {j = a} (omega arith) in omega arith))
 

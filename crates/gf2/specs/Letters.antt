@@ -22,14 +22,14 @@ ones-unit (suc f) =
     ones-step (2 ^ suc f) ∙ ap₂ (λ (d k : ℕ). d + k) q (ap ones p ∙ ones-unit f)
 
 -- an exclusive-or has no more digits than its parts
-xor-step : (a b : ℕ) → ones (bitXor (a / 2) (b / 2)) ≤ ones (a / 2) + ones (b / 2) → ones (bitXor a b) ≤ ones a + ones b
-xor-step a b ih =
+ones-xor-step : (a b : ℕ) → ones (bitXor (a / 2) (b / 2)) ≤ ones (a / 2) + ones (b / 2) → ones (bitXor a b) ≤ ones a + ones b
+ones-xor-step a b ih =
     omega (arith, ones-step (bitXor a b), ones-step a, ones-step b, xor-low a b, ap ones (xor-half a b))
 
 ones-xor : (a b : ℕ) → ones (bitXor a b) ≤ ones a + ones b
 ones-xor = bin-ind (λ (a : ℕ). (b : ℕ) → ones (bitXor a b) ≤ ones a + ones b)
     (λ b. omega (arith, ap ones (xor-zero-l b)))
-    (λ a ih b. xor-step a b (ih (b / 2)))
+    (λ a ih b. ones-xor-step a b (ih (b / 2)))
 
 -- two digits
 pub ones-pair : (f g : ℕ) → ones (bitXor (2 ^ f) (2 ^ g)) ≤ 2

@@ -139,3 +139,12 @@ to-different g zero inj = tt
 to-different g (suc n) inj =
     different-snoc (listTo g n) (g n) (to-different g n (λ i j p q e. inj i j (omega arith) (omega arith) e))
     (λ m. let r = of-to g n (g n) m in absurd (omega (arith, r .1 .0, inj n (r .0) (omega arith) (omega (arith, r .1 .0)) (r .1 .1))))
+
+-- a one-to-one function of the numbers below n into them is onto
+pub onto-range : (F : ℕ → ℕ) (n : ℕ) → ((k : ℕ) → k < n → F k < n) → ((j k : ℕ) → j < n → k < n → F j ≡ F k → j ≡ k)
+    → (y : ℕ) → y < n → (k : ℕ) × ((k < n) × (F k ≡ y))
+onto-range F n below once y h =
+    let r = of-to F n y (pigeon (listTo F n) (upto n) (to-different F n once)
+    (λ z m. let o = of-to F n z m in upto-in n z (subst (λ (i : ℕ). i < n) (sym (o .1 .1)) (below (o .0) (o .1 .0))))
+    (omega (arith, to-length F n, upto-length n)) y (upto-in n y h)) in
+    (r .0, (r .1 .0, sym (r .1 .1)))

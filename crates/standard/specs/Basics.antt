@@ -18,7 +18,7 @@ use Rattle.gf2.specs.Digits.{bit, odd, pick}
 use Rattle.gf2.specs.Lists.{some-or-all}
 use Rattle.gf2.specs.Members.{In}
 use Rattle.gf2.specs.Parity.{numberOf, number-lt, linear-is-odd, odd-keep, odd-fresh}
-use Rattle.gf2.specs.Truth.{and-both}
+use Rattle.gf2.specs.Truth.{and-both, clash}
 use Rattle.standard.specs.Coordinates.{coord-lt, coord-xor}
 use Rattle.standard.specs.Model.{coordOf, fitsAll, firstFrom, firstFit, choose, basicsAt, columnAt}
 
@@ -145,7 +145,7 @@ module _ (u : List ℕ) (closed : (x y : ℕ) → In x u → In y u → In (bitX
       let s = some-fits bs f onto h in
       let p : fitsAll bs u f (s .0) ≡ true = all-fits bs u f (s .0) (s .1 .1) in
       let q = none (s .0) (s .1 .0) in
-      let z : _≡_ {A = ℕ} 0 1 = ap (λ (b : Bool). pick b 0 1) (sym p ∙ q) in absurd (omega arith))
+      absurd (clash p q))
       (some-or-all (λ (x : ℕ). (coordOf bs x ≡ 0) × (bit f x ≡ 1)) (λ (x : ℕ). coordOf bs x ≡ 0 → bit f x ≡ 0) u
       (λ x. by-cases (ℕ-discrete (coordOf bs x) 0)
       (λ e. by-cases (ℕ-discrete (bit f x) 0) (λ d. inr (λ w. d)) (λ ne. inl (e, omega arith)))

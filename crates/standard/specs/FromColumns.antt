@@ -1,20 +1,22 @@
--- The run table of columns of rank m is a regular table of 2^m different runs. Rank m is: no run but the first is 0.
+-- The run table of columns of rank m is a regular table of 2^m different runs. Rank m is: no run but the first is 0. m independent columns have it.
 use mathlib.Core.Path.{_≡_, sym, ap, ap₂, _∙_, subst}
 use mathlib.Core.List.{List}
 use Prim.Native.Nat.{ℕ, _^_, _<_}
-use lib.Bits.{bitXor, xor-self, xor-lt, xor-zero-r, xor-zero-l}
+use lib.Bits.{bitXor, xor-self, xor-lt}
 use lib.Pow.{pow-pos}
-use Rattle.gf2.specs.DigitLaws.{xor-assoc}
+use Rattle.gf2.specs.DigitLaws.{xor-none}
 use Rattle.gf2.specs.Digits.{odd}
-use Rattle.gf2.specs.Lists.{to-length, in-to, of-to, to-different}
+use Rattle.gf2.specs.Lists.{to-length, in-to, of-to, to-different, onto-range}
 use Rattle.gf2.specs.Members.{In}
 use Rattle.gf2.specs.Parity.{odd-comm, odd-zero-l, by-parity, odd-zero-r}
-use Rattle.regular.specs.Columns.{runOf, Spans}
+use Rattle.regular.specs.Columns.{runOf, Spans, Below}
 use Rattle.regular.specs.Runs.{Table}
+use Rattle.regular.specs.Words.{total, Independent}
 use Rattle.standard.specs.FromTable.{Space}
 use Rattle.standard.specs.Model.{runTable}
 use Rattle.standard.specs.Form.{Apart}
-use Rattle.standard.specs.Runs.{run-lt, run-zero, run-xor, odd-total}
+use Rattle.standard.specs.Runs.{run-lt, run-zero, run-xor, odd-total, total-lt}
+use Rattle.standard.specs.Total.{independent-once}
 
 -- columns of rank m: only run 0 is 0
 pub spans-apart : (n m : ℕ) (c : List ℕ) → Spans n m c → Apart n m c
@@ -30,7 +32,14 @@ pub apart-inj : (n m : ℕ) (c : List ℕ) → Apart n m c → (i j : ℕ) → i
 apart-inj n m c ap0 i j hi hj e =
     let z : runOf c n (bitXor i j) ≡ 0 = run-xor c n i j ∙ ap (λ (r : ℕ). bitXor r (runOf c n j)) e ∙ xor-self (runOf c n j) in
     let d : bitXor i j ≡ 0 = ap0 (bitXor i j) (xor-lt m i j hi hj) z in
-    sym (xor-zero-r i) ∙ ap (bitXor i) (sym (xor-self j)) ∙ sym (xor-assoc i j j) ∙ ap (λ (x : ℕ). bitXor x j) d ∙ xor-zero-l j
+    xor-none i j d
+
+-- m independent columns of m bits reach every number, and so do their runs
+pub independent-spans : (m : ℕ) (t : List ℕ) → Independent m t → Below m m t → Spans m m t
+independent-spans m t ind b = onto-range (total t m) (2 ^ m) (λ i l. total-lt t m m i b) (independent-once m t ind)
+
+pub runs-all : (m : ℕ) (t : List ℕ) → Spans m m t → (v : ℕ) → v < 2 ^ m → (j : ℕ) × ((j < 2 ^ m) × (runOf t m j ≡ v))
+runs-all m t sp = onto-range (runOf t m) (2 ^ m) (λ j l. run-lt t m j) (apart-inj m m t (spans-apart m m t sp))
 
 module _ (n m : ℕ) (c : List ℕ) where
   abbrev runs : List ℕ

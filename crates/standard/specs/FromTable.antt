@@ -9,7 +9,7 @@ use native.Mathlib.Omega.{arith}
 use lib.Bits.{bitXor, xor-self, xor-lt, xor-comm}
 use lib.Pow.{pow-pos, mod-pow-add}
 use lib.ListN.{length, getD}
-use Rattle.gf2.specs.DigitLaws.{xor-assoc, pow-le-inv, xor-back}
+use Rattle.gf2.specs.DigitLaws.{xor-assoc, pow-le-inv, xor-back, xor-move, xor-cancel}
 use Rattle.gf2.specs.Digits.{bit, odd}
 use Rattle.gf2.specs.Lists.{image, fewer, upto, upto-lt, upto-in, upto-length, upto-different, image-length, in-image, of-image, image-different, to-at}
 use Rattle.gf2.specs.Members.{In, Different}
@@ -118,7 +118,7 @@ module _ (n m : ℕ) (t : List ℕ) (tab : Table n m t) where
   back-in y i =
       let r = getD t 0 0 in
       let o = of-image (λ (x : ℕ). bitXor x r) t y i in
-      subst (λ (z : ℕ). In z t) (sym (xor-back (o .0) r) ∙ ap (λ (w : ℕ). bitXor w r) (sym (o .1 .1))) (o .1 .0)
+      subst (λ (z : ℕ). In z t) (xor-move (o .0) r y (sym (o .1 .1))) (o .1 .0)
 
   diff-in : (y : ℕ) → In (bitXor y (getD t 0 0)) t → In y (diffs t)
   diff-in y i =
@@ -135,7 +135,7 @@ module _ (n m : ℕ) (t : List ℕ) (tab : Table n m t) where
             (ap (λ (w : ℕ). bitXor w r) (xor-assoc x r (bitXor y r) ∙ ap (bitXor x) (ap (bitXor r) (xor-comm y r) ∙ sym (xor-assoc r r y) ∙ ap (λ (w : ℕ). bitXor w y) (xor-self r))))
             (tab .regular (bitXor x r) (bitXor y r) r (back-in x p) (back-in y q) head-in));
         within = λ x p. subst (λ (z : ℕ). z < 2 ^ n) (xor-back x r) (xor-lt n (bitXor x r) r (tab .within (bitXor x r) (back-in x p)) (tab .within r head-in));
-        different = image-different (λ (x : ℕ). bitXor x r) t (tab .different) (λ x y p q e. sym (xor-back x r) ∙ ap (λ (w : ℕ). bitXor w r) e ∙ xor-back y r);
+        different = image-different (λ (x : ℕ). bitXor x r) t (tab .different) (λ x y p q. xor-cancel x y r);
       }
 
   pub diffs-count : length (diffs t) ≡ 2 ^ m

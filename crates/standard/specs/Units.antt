@@ -14,7 +14,7 @@ use lib.Pow.{pow-pos, pow-lt, pow-mono, mod-pow-add}
 use lib.ListN.{length, getD}
 use borrow.Author.Tests.{eqb-true}
 use Rattle.gf2.specs.Digits.{bit, odd, pick}
-use Rattle.gf2.specs.DigitLaws.{bit-ext, bit-none}
+use Rattle.gf2.specs.DigitLaws.{bit-ext, bit-none, pow-most}
 use Rattle.gf2.specs.Parity.{odd-comm, odd-bit}
 use Rattle.gf2.specs.Members.{In}
 use Rattle.regular.specs.Columns.{Below, Spans}
@@ -160,4 +160,4 @@ standard-spans n m a s v h =
 
 -- columns of at most seven bits
 pub below-128 : (n m : ℕ) (c : List ℕ) → m ≤ 7 → Below n m c → (f : ℕ) → f < n → getD c f 0 < 128
-below-128 n m c h b f l = omega (arith, b f l, pow-mono {i = m} {j = 7} h)
+below-128 n m c h b f l = omega (arith, b f l, pow-most m h)

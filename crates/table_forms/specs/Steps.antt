@@ -8,15 +8,16 @@ use native.Mathlib.Omega.{arith}
 use borrow.Author.Tests.{eq-eqb, ne-eqb}
 use lib.Bits.{bitXor}
 use lib.Dec.{eqb}
-use lib.Pow.{pow-lt, pow-mono, pow-pos}
+use lib.Pow.{pow-lt, pow-pos}
 use lib.ListN.{length, getD, set, replicate, length-set}
 use Rattle.gf2.specs.Digits.{bit, odd, pick}
-use Rattle.gf2.specs.DigitLaws.{bit-ext}
+use Rattle.gf2.specs.DigitLaws.{bit-ext, pow-most, pow-half}
 use Rattle.gf2.specs.Lists.{image, image-length, in-image, of-image, fewer, upto, upto-lt, upto-length, upto-different}
 use Rattle.gf2.specs.Members.{In}
 use Rattle.gf2.specs.Parity.{odd-bit}
 use Rattle.gf2.specs.Places.{place-in, in-place}
 use Rattle.gf2.specs.Fill.{zeros}
+use Rattle.gf2.specs.Truth.{clash}
 use Rattle.regular.specs.Runs.{Table}
 use Rattle.standard.specs.Basics.{Fits, Onto, fits-all, fits-keep, fits-fresh, onto-next}
 use Rattle.standard.specs.Coordinates.{coord-lt}
@@ -25,7 +26,6 @@ use Rattle.standard.specs.FromTable.{table-space, diffs-count}
 use Rattle.standard.specs.Model.{diffs, coordOf, fitsAll}
 use Rattle.standard.specs.NextColumn.{set-column, set-next, set-unused, units-more}
 use Rattle.table_forms.specs.declared.Walked.{Walked}
-use Rattle.table_forms.specs.Turns.{never, half-small}
 use Rattle.table_forms.specs.Walk.{diffAt, Held, Latest, Alone, Read, Candidate, FitsAt, Fitting, Extended, Walk, Followed, Grown, Reached}
 
 -- the differences are those of the places
@@ -177,19 +177,19 @@ missing-refused bs t coords place i held l onto h ne =
 
 -- the outcomes of a step
 pub ended : (m : ℕ) (t : List ℕ) (f : ℕ) (v : Walked) → v .ok ≡ false → ((n : ℕ) → Table n m t → ⊥) → Reached m t f v
-ended m t f v e h = record { walk = λ p. never (sym p ∙ e); refused = λ p. h }
+ended m t f v e h = record { walk = λ p. absurd (clash p e); refused = λ p. h }
 
 pub went : (m : ℕ) (t : List ℕ) (f : ℕ) (v : Walked) → v .ok ≡ true → Walk m t f v → Reached m t f v
-went m t f v e w = record { walk = λ p. w; refused = λ p. never (sym e ∙ p) }
+went m t f v e w = record { walk = λ p. w; refused = λ p. absurd (clash e p) }
 
 module _ (m : ℕ) (t : List ℕ) (f : ℕ) (w : Walked) (s : Walk m t f w) where
   pub walk-small : m ≤ 7 → (w .basics ≤ 7) × (w .half ≤ 128)
-  walk-small h = (omega (arith, s .basics, s .few), omega (arith, s .half, pow-mono {i = length (s .bs)} {j = 7} (omega (arith, s .few))))
+  walk-small h = (omega (arith, s .basics, s .few), omega (arith, s .half, pow-most (length (s .bs)) (omega (arith, s .few))))
 
   pub walk-room : m ≤ 7 → (w .basics ≡ m → ⊥) → (w .basics < 7) × (w .half ≤ 64)
   walk-room h room =
       let l : length (s .bs) < 7 = omega (arith, s .basics, s .few, room) in
-      (omega (arith, s .basics), half-small (length (s .bs)) (w .half) (s .half) l)
+      (omega (arith, s .basics), rw (s .half) (pow-half (length (s .bs)) 7 l (omega arith)))
 
   pub walk-below : (i : ℕ) → i < length t → getD (w .coords) i 0 < w .half
   walk-below = held-lt (s .bs) t (w .coords) (w .half) (s .half) (s .held)

@@ -1,19 +1,16 @@
 -- What a turn of each loop of the walk does.
 use mathlib.Core.Path.{_≡_, refl, sym, ap, ap₂, _∙_}
 use mathlib.Core.Logic.{by-cases}
-use mathlib.Core.Bool.{true, false}
 use mathlib.Core.List.{List}
 use Prim.Native.Nat.{ℕ, _+_, _*_, _^_, _<_, _≤_}
-use native.Mathlib.Nat.{two-pow-succ}
-use native.Mathlib.Numerals.{add-one}
 use native.Mathlib.Omega.{arith}
 use native.Mathlib.Decide.{ℕ-discrete}
 use lib.Arith.{digits-lt}
-use lib.Pow.{pow-pos, pow-mono}
+use lib.Pow.{pow-pos}
 use lib.ListN.{length, getD, set, replicate, length-set}
 use lib.Seq.{getD-set-same, getD-set-other}
 use Rattle.gf2.specs.Digits.{bit}
-use Rattle.gf2.specs.DigitLaws.{low-bit, bit-top}
+use Rattle.gf2.specs.DigitLaws.{low-bit, bit-top, pow-most}
 use Rattle.gf2.specs.Fill.{zeros}
 use Rattle.table_forms.specs.Walk.{diffAt, Latest, Read, Extended}
 
@@ -48,16 +45,9 @@ latest-more count k coords v h b l =
     before : (i : ℕ) → i < k + 1 → (getD coords i 0 ≡ getD coords k 0 → ⊥) → i < k
     before i s ne = by-cases (ℕ-discrete i k) (λ e. absurd (ne (ap (λ (y : ℕ). getD coords y 0) e))) (λ n. omega arith)
 
--- the next unit
-pub half-next : (i half : ℕ) → half ≡ 2 ^ i → half + half ≡ 2 ^ (i + 1)
-half-next i half e = rw (add-one i) (omega (arith, two-pow-succ i))
-
-pub half-small : (i half : ℕ) → half ≡ 2 ^ i → i < 7 → half ≤ 64
-half-small i half e h = omega (arith, pow-mono {i = i} {j = 6} (omega arith))
-
 -- the number of runs
 pub count-small : (m k : ℕ) → m ≤ 7 → k ≡ 2 ^ m → (0 < k) × (k ≤ 128)
-count-small m k h e = (omega (arith, pow-pos m), omega (arith, pow-mono {i = m} {j = 7} h))
+count-small m k h e = (omega (arith, pow-pos m), omega (arith, pow-most m h))
 
 -- the candidate column: one more bit
 pub read-below : (half d k : ℕ) → d < 2 → k < half → d * half + k < half + half
@@ -86,7 +76,3 @@ extend-more t c₀ c f half k v h x e =
           (λ ne. getD-set-other c k i v 0 ne ∙ x .made i (omega arith));
       kept = λ i l. getD-set-other c k i v 0 (λ p. omega arith) ∙ x .kept i (omega arith);
     }
-
--- the answer of a test is one of two
-pub never : {A : Type 0} → true ≡ false → A
-never e = let z : _≡_ {A = ℕ} 0 1 = cc in absurd (omega arith)

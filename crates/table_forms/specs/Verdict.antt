@@ -8,7 +8,7 @@ use native.Mathlib.Omega.{arith}
 use lib.Bits.{bitXor, xor-self, xor-zero-r, xor-lt}
 use lib.Pow.{pow-mono}
 use lib.ListN.{length, getD, replicate}
-use Rattle.gf2.specs.DigitLaws.{xor-assoc, xor-back, xor-4, pow-le-inv}
+use Rattle.gf2.specs.DigitLaws.{xor-assoc, xor-back, xor-4, pow-le-inv, xor-move, xor-cancel}
 use Rattle.gf2.specs.Lists.{fewer, upto, upto-in, upto-length, listTo, to-length, of-to, to-different}
 use Rattle.gf2.specs.Members.{In, pigeon}
 use Rattle.gf2.specs.Places.{place-in, in-place, different-once, once-different}
@@ -50,7 +50,7 @@ module _ (n m : ℕ) (t a : List ℕ) (g : ℕ → ℕ) (count : length t ≡ 2 
         into = λ x q.
             let p = in-place t (bitXor x r) q in
             let i = p .0 in
-            let e : x ≡ diffAt t i = sym (xor-back x r) ∙ ap (λ (y : ℕ). bitXor y r) (p .1 .1) in
+            let e : x ≡ diffAt t i = xor-move x r (getD t i 0) (p .1 .1) in
             (g (diffAt t i), (below i (p .1 .0), e ∙ runs i (p .1 .0)));
         onto = λ x q.
             let p = each (q .0) (q .1 .0) in
@@ -119,7 +119,7 @@ module _ (n m : ℕ) (t : List ℕ) (w : Walked) (count : length t ≡ 2 ^ m) (w
       let r = getD t 0 0 in
       let e : coordOf (s .bs) (diffAt t x) ≡ coordOf (s .bs) (diffAt t i) = sym (s .held x hx) ∙ s .latest .same i h ∙ s .held i h in
       let d : diffAt t x ≡ diffAt t i = runs-at x hx ∙ ap (runOf (w .columns) n) e ∙ sym (runs-at i h) in
-      ne (different-once t (tab .different) x i hx h (sym (xor-back (getD t x 0) r) ∙ ap (λ (y : ℕ). bitXor y r) d ∙ xor-back (getD t i 0) r))
+      ne (different-once t (tab .different) x i hx h (xor-cancel (getD t x 0) (getD t i 0) r d))
 
   -- each run is the last with its levels: the table is regular
   pub verdict-regular : AllLast (length t) (w .coords) (w .place) true → Found n m (Table n m t) (switched (getD t 0 0) (runsOf t)) true (w .columns)

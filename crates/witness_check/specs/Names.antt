@@ -10,9 +10,8 @@ use lib.Bits.{bitXor}
 use lib.ListN.{length, getD}
 use lib.Pow.{shl-exact}
 use Rattle.gf2.specs.Digits.{bit}
-use Rattle.gf2.specs.DigitLaws.{bit-xor, bit-none}
+use Rattle.gf2.specs.DigitLaws.{bit-xor, bit-none, bit-own, bit-other}
 use Rattle.regular.specs.Same.{Renaming}
-use Rattle.isomorphism_laws.specs.Put.{mark-own, mark-other}
 
 -- n names, each of the n factors being used once
 pub record Named (n : ℕ) (p : List ℕ) : Type 0 where
@@ -53,10 +52,10 @@ module _ (n : ℕ) (p : List ℕ) (f seen name : ℕ) (s : Used n p f seen) (is 
     apart g h e = let b : bit name seen ≡ 1 = subst (λ (i : ℕ). bit i seen ≡ 1) e (s .marked g h) in omega arith
 
     own : bit name (bitXor seen (2 ^ name)) ≡ 1
-    own = bit-xor name seen (2 ^ name) ∙ ap₂ (λ (a b : ℕ). (a + b) % 2) free (mark-own name)
+    own = bit-xor name seen (2 ^ name) ∙ ap₂ (λ (a b : ℕ). (a + b) % 2) free (bit-own name)
 
     other : (e : ℕ) → (e ≡ name → ⊥) → bit e (bitXor seen (2 ^ name)) ≡ bit e seen
-    other e ne = bit-xor e seen (2 ^ name) ∙ omega (arith, mark-other e name ne)
+    other e ne = bit-xor e seen (2 ^ name) ∙ omega (arith, bit-other e name ne)
 
     named : (g : ℕ) → g ≡ f → getD p g 0 ≡ name
     named g e = ap (λ (i : ℕ). getD p i 0) e ∙ sym is

@@ -8,7 +8,7 @@ use native.Mathlib.Omega.{arith}
 use lib.Bits.{bitXor}
 use lib.ListN.{length, getD}
 use Rattle.gf2.specs.Answers.{Tells, tells-yes}
-use Rattle.gf2.specs.DigitLaws.{xor-back}
+use Rattle.gf2.specs.DigitLaws.{xor-cancel}
 use Rattle.gf2.specs.Lists.{image, image-length, of-image, image-different}
 use Rattle.gf2.specs.Members.{In, Different, pigeon}
 use Rattle.gf2.specs.Places.{place-in, in-place}
@@ -57,7 +57,7 @@ module _ (n : ℕ) (t u p : List ℕ) (mask : ℕ) where
 module _ (n : ℕ) (t u p : List ℕ) (mask : ℕ) (r : Renaming n p) (different : Different t) (low : Within n (runsOf t)) where
   reached-once : (x y : ℕ) → In x t → In y t → reached n p mask x ≡ reached n p mask y → x ≡ y
   reached-once x y a b e =
-      moved-once n p r x y (low x a) (low y b) (sym (xor-back (moved p n x) mask) ∙ ap (λ (z : ℕ). bitXor z mask) e ∙ xor-back (moved p n y) mask)
+      moved-once n p r x y (low x a) (low y b) (xor-cancel (moved p n x) (moved p n y) mask e)
 
   -- as many runs: the partners are all of u
   partners-all : length u ≤ length t → Partnered n t u p mask → (y : ℕ) → In y u → (x : ℕ) × (In x t × (y ≡ reached n p mask x))

@@ -4,7 +4,6 @@ use mathlib.Core.Bool.{Bool, true, false, true≢false, false≢true}
 use mathlib.Core.Logic.{by-cases}
 use mathlib.Core.List.{List}
 use Prim.Native.Nat.{ℕ, zero, suc, _+_, _-_, _*_, _^_, _<_, _≤_}
-use native.Mathlib.Nat.{two-pow-succ}
 use native.Mathlib.Numerals.{add-one}
 use native.Mathlib.Omega.{arith}
 use native.Mathlib.Decide.{ℕ-discrete}
@@ -12,9 +11,9 @@ use borrow.Author.Tests.{eq-eqb, ne-eqb}
 use lib.Bits.{bitXor}
 use lib.Dec.{eqb}
 use lib.ListN.{getD, set, replicate}
-use lib.Pow.{pow-mono}
 use Rattle.gf2.specs.Digits.{bit, pick}
 use Rattle.gf2.specs.Fill.{Filled, fill-unused}
+use Rattle.gf2.specs.DigitLaws.{pow-most, pow-twice}
 use Rattle.regular.specs.Words.{total, Generated, Independent}
 use Rattle.standard.specs.Finding.{Found, is-found}
 use Rattle.standard.specs.Total.{total-cols}
@@ -113,7 +112,7 @@ unfolding freeBefore
 unit-next piv f unit u e h = rw (add-one f) (h ∙ go (eqb (getD piv f 0) 0))
   where
     go : (t : Bool) → pick t (unit + unit) unit ≡ 2 ^ (freeBefore piv f + pick t 1 0)
-    go true = omega (arith, two-pow-succ (freeBefore piv f), ap (λ (k : ℕ). 2 ^ k) (add-one (freeBefore piv f)))
+    go true = pow-twice (freeBefore piv f) unit e
     go false = let q : freeBefore piv f + 0 ≡ freeBefore piv f = omega arith in e ∙ ap (λ (k : ℕ). 2 ^ k) (sym q)
 
 free-mono : (piv : List ℕ) (f d : ℕ) → freeBefore piv f ≤ freeBefore piv (d + f)
@@ -124,7 +123,7 @@ free-mono piv f (suc d) = let e : suc d + f ≡ suc (d + f) = omega arith in rw 
 pub unit-small : (n : ℕ) (piv : List ℕ) (f unit : ℕ) → f ≤ n → freeBefore piv n ≤ 7 → unit ≡ 2 ^ freeBefore piv f → unit ≤ 128
 unit-small n piv f unit h l e =
     let q : n - f + f ≡ n = omega arith in
-    omega (arith, pow-mono {i = freeBefore piv f} {j = 7} (omega (arith, free-mono piv f (n - f), ap (freeBefore piv) q)))
+    omega (arith, pow-most (freeBefore piv f) (omega (arith, free-mono piv f (n - f), ap (freeBefore piv) q)))
 
 -- the answer of `words_columns`
 pub found-done : (n g : ℕ) (ws piv a : List ℕ) → g ≤ n → Pivots n g ws piv → Filled (columnOf piv n) zeros16 n a

@@ -4,12 +4,12 @@ use mathlib.Core.Logic.{_≢_, by-cases}
 use mathlib.Core.List.{List}
 use Prim.Native.Nat.{ℕ, zero, suc, _+_, _*_, _%_, _^_, _≤_, _<_}
 use native.Mathlib.Omega.{arith}
-use native.Mathlib.Decide.{ℕ-discrete, decLe, decLt}
+use native.Mathlib.Decide.{ℕ-discrete, decLe}
 use lib.Bits.{bitXor}
-use lib.Pow.{pow-pos, pow-lt, pow-mono, split}
+use lib.Pow.{pow-mono, split}
 use lib.ListN.{getD}
 use Rattle.gf2.specs.Digits.{bit}
-use Rattle.gf2.specs.DigitLaws.{bit-xor, bit-none, bit-over, low-bit}
+use Rattle.gf2.specs.DigitLaws.{bit-xor, bit-none}
 use Rattle.regular.specs.Words.{total, Last}
 use Rattle.standard.specs.Total.{total-xor, total-none}
 use Rattle.words.specs.Pivots.{last-lt}
@@ -29,18 +29,7 @@ last-le e f w p q =
 pub last-unique : (e f w : ℕ) → Last e w → Last f w → e ≡ f
 last-unique e f w p q = omega (arith, last-le e f w p q, last-le f e w q p)
 
--- one letter
-pub bit-unit : (e f d : ℕ) → d < 2 → e ≢ f → bit e (d * 2 ^ f) ≡ 0
-bit-unit e f d h ne =
-    by-cases (decLt e f)
-    (λ l. let z : d * 2 ^ f ≡ d * 2 ^ f + 0 = omega arith in ap (λ (y : ℕ). bit e y) z ∙ low-bit e f d 0 l (pow-pos f) ∙ bit-none e)
-    (λ l. bit-over e (d * 2 ^ f) (unit-lt d h (pow-lt {i = f} {j = e} (omega arith))))
-  where
-    unit-lt : (c : ℕ) → c < 2 → 2 ^ f < 2 ^ e → c * 2 ^ f < 2 ^ e
-    unit-lt zero k l = omega arith
-    unit-lt (suc zero) k l = omega arith
-    unit-lt (suc (suc c)) k l = absurd (omega arith)
-
+-- a word that is taken or not
 bit-times : (e x d : ℕ) → d < 2 → bit e (x * d) ≡ bit e x * d
 bit-times e x zero h = let z : x * 0 ≡ 0 = omega arith in ap (λ (y : ℕ). bit e y) z ∙ bit-none e ∙ omega arith
 bit-times e x (suc zero) h = let z : x * 1 ≡ x = omega arith in ap (λ (y : ℕ). bit e y) z ∙ omega arith

@@ -15,7 +15,7 @@ use lib.Arith.{digits-lt}
 use lib.Pow.{pow-pos, pow-lt, pow-mono, split, shr-lt}
 use lib.ListN.{getD, set, length-set, replicate}
 use lib.Seq.{getD-set-same, getD-set-other}
-use Rattle.gf2.specs.DigitLaws.{xor-assoc, bit-xor, xor-back, bit-over}
+use Rattle.gf2.specs.DigitLaws.{xor-assoc, bit-xor, bit-over, xor-move, xor-none}
 use Rattle.gf2.specs.Digits.{bit, pick}
 use Rattle.regular.specs.Words.{total, Independent}
 use Rattle.standard.specs.Total.{InSpan, total-none, total-next, total-more, span-none, span-xor, span-at, span-total, span-more}
@@ -175,7 +175,7 @@ module _ (n i : ℕ) (ws piv : List ℕ) (P : Pivots n i ws piv) (hw : getD ws i
   reduced-lt = subst (λ (y : ℕ). y < 2 ^ n) (sym (red .is)) (xor-lt n w rest hw (sum-lt n piv (P .last) (red .by)))
 
   word-is : w ≡ bitXor r rest
-  word-is = sym (xor-back w rest) ∙ ap (λ (y : ℕ). bitXor y rest) (sym (red .is))
+  word-is = xor-move w rest r (sym (red .is))
 
   -- nothing is left: the words depend
   pub depends : r ≡ 0 → (s : ℕ) × ((s < 2 ^ suc i) × ((total ws (suc i) s ≡ 0) × (s ≡ 0 → ⊥)))
@@ -240,7 +240,7 @@ module _ (n i : ℕ) (ws piv : List ℕ) (P : Pivots n i ws piv) (hw : getD ws i
         let o : w * 1 ≡ w = omega arith in
         let A = total ws i s in
         let z : bitXor A w ≡ 0 = ap (bitXor A) (sym o) ∙ sym (total-next ws i 1 s hd hs) ∙ e in
-        let wa : w ≡ A = sym (xor-back w A) ∙ ap (λ (y : ℕ). bitXor y A) (xor-comm w A ∙ z) ∙ xor-zero-l A in
+        let wa : w ≡ A = sym (xor-none A w z) in
         let k : InSpan piv n r = subst (InSpan piv n) (sym (red .is))
         (span-xor piv n w rest (subst (InSpan piv n) (sym wa) (span-total piv n ws i s (P .back))) (red .by, (red .by-lt, refl))) in
         absurd (ne (sym (k .1 .1) ∙ sum-none n piv (k .0) (P .last) (λ f l q. ap (λ (y : ℕ). bit f y) (k .1 .1) ∙ red .clear f l q)))

@@ -7,7 +7,7 @@ use lib.Bits.{bitXor, xor-zero-r}
 use lib.Count.{ones}
 use lib.ListN.{getD}
 use Rattle.gf2.specs.Counts.{count-same, count-image}
-use Rattle.gf2.specs.DigitLaws.{xor-back, sum-cancel}
+use Rattle.gf2.specs.DigitLaws.{xor-back, sum-cancel, xor-cancel}
 use Rattle.gf2.specs.Digits.{odd}
 use Rattle.gf2.specs.Parity.{odd-lin-l, odd-lt}
 use Rattle.regular.specs.Pattern.{Pattern, Resolution, Distances, ofLength}
@@ -107,6 +107,6 @@ module _ (n mask : ℕ) (s : Runs) where
             (λ x. bitXor x mask)
             (λ x p. (p .0, ap ones (xor-back x mask ∙ sym (xor-zero-r x)) ∙ p .1))
             (λ y q. (bitXor y mask, ((subst s (sym (xor-back y mask)) (q .0), ap ones (xor-zero-r (bitXor y mask)) ∙ q .1), sym (xor-back y mask))))
-            (λ x y p q e. sym (xor-back x mask) ∙ ap (λ (z : ℕ). bitXor z mask) e ∙ xor-back y mask)
+            (λ x y p q. xor-cancel x y mask)
             (c .counts i h);
       }

@@ -10,11 +10,11 @@ use native.Mathlib.Omega.{arith}
 use native.Mathlib.Decide.{ℕ-discrete}
 use borrow.Author.Tests.{eq-eqb, ne-eqb}
 use lib.Dec.{eqb}
-use lib.Bits.{bitXor, xor-comm, xor-shifted, xor-self, xor-zero-l}
+use lib.Bits.{bitXor, xor-shifted, xor-self}
 use lib.Arith.{digits-div}
 use lib.Pow.{pow-pos, pow-lt, pow-mono, split}
 use lib.ListN.{getD}
-use Rattle.gf2.specs.DigitLaws.{xor-back}
+use Rattle.gf2.specs.DigitLaws.{xor-none}
 use Rattle.gf2.specs.Digits.{pick}
 use Rattle.gf2.specs.Lists.{listTo, to-at}
 use Rattle.regular.specs.Columns.{planOf}
@@ -135,7 +135,7 @@ module _ (n m : ℕ) (a : List ℕ) (s : StandardForm n m a) (f : ℕ) (h : f < 
   basic-last-of-none e w word q =
       let A = total a f (w % 2 ^ f) in
       let z : bitXor A (getD a f 0) ≡ 0 = sym (last-total w q) ∙ word-cancels n m a (standard-below n m a s) w word in
-      let p : getD a f 0 ≡ A = sym (xor-back (getD a f 0) A) ∙ ap (λ (y : ℕ). bitXor y A) (xor-comm (getD a f 0) A ∙ z) ∙ xor-zero-l A in
+      let p : getD a f 0 ≡ A = sym (xor-none A (getD a f 0) z) in
       omega (arith, total-lt a f (unitsBefore a f) (w % 2 ^ f) below-at)
 
   pub other-last-of-one : (getD a f 0 ≡ 2 ^ unitsBefore a f → ⊥) → Word n (planOf n m a) (wordAt a f) × (wordAt a f / 2 ^ f ≡ 1)

@@ -12,12 +12,11 @@ use lib.Dec.{eqb}
 use lib.ListN.{length, getD, length-append, List·getD-append}
 use lib.Seq.{getD-at}
 use Rattle.gf2.specs.Digits.{bit, pick}
-use Rattle.gf2.specs.DigitLaws.{bit-xor, bit-none}
+use Rattle.gf2.specs.DigitLaws.{bit-xor, bit-none, bit-unit}
 use Rattle.standard.specs.Model.{choose}
 use Rattle.standard.specs.Form.{unitsBefore}
 use Rattle.standard.specs.Units.{spread, unitsAt}
 use Rattle.words.specs.ToWords.{wordAt}
-use Rattle.words.specs.Letters.{bit-unit}
 
 -- factor f is basic: its column is the next unit
 abbrev pub isUnit : List ℕ → ℕ → Type 0

@@ -8,7 +8,7 @@ use Rattle.admission.proofs.admit_array.Tie as tie
 use Rattle.admission.specs.Faults.{columns-0, columns-5, columns-6, columns-7}
 use Rattle.admission.specs.Admitting.{array-answered}
 use Rattle.standard.specs.Units.{standard-below}
-use lib.Pow.{pow-mono}
+use Rattle.gf2.specs.DigitLaws.{pow-most}
 use Rattle.words.specs.Short.{plain-long, repeat-short}
 
 power-requires : tie.Need-power-requires
@@ -58,7 +58,7 @@ plain-requires c κs =
     let v = c .before .if2 .left in
     let r = c .before .before .before .standardize .result in
     let st = u .standard (not-false _ v) in
-    (omega arith, λ f h. omega (arith, standard-below (a .n) (a .m) (r .columns) (st .form) f h, pow-mono {i = a .m} {j = 7} (omega arith)))
+    (omega arith, λ f h. omega (arith, standard-below (a .n) (a .m) (r .columns) (st .form) f h, pow-most (a .m) (omega arith)))
 
 refused-requires-3 : tie.Need-refused-requires-3
 refused-requires-3 c κs = search needs

@@ -1,7 +1,8 @@
 -- `column_forms::plain` meets its contract: 0 and the columns passed are marked, and no other number, so a mark at the next column is a 0 or a
 -- repeat. The measure is what is left of the columns. Assumes nothing.
 use mathlib.Core.Path.{_≡_, refl}
-use Prim.Native.Nat.{ℕ, _-_, _≤_}
+use mathlib.Core.Bool.{true≢false, false≢true}
+use Prim.Native.Nat.{_-_, _≤_}
 use native.Mathlib.Omega.{arith}
 use Rattle.column_forms.specs.Tables.{Seen}
 use Rattle.column_forms.specs.TableLaws.{seen-none, seen-more, seen-twice}
@@ -35,7 +36,7 @@ array-read-if1 c =
 returns : tie.Need-returns Inv-loop μ-loop
 returns c =
     let at = c .before .before .before in (
-      λ e. let z : _≡_ {A = ℕ} 0 1 = cc in absurd (omega arith),
+      λ e. absurd (false≢true e),
       λ e. seen-twice _ _ _ _ (c .before .wide-byte .ensures .0) (at .loop .inv .1) _ (omega arith) (c .if1 .taken),
     )
 
@@ -58,7 +59,7 @@ returns-2 c =
     let at = c .before in
     let q : at .loop .f ≡ at .before .args .n = omega arith in (
       λ e. rw (← q) (at .loop .inv .1 .plain),
-      λ e. let z : _≡_ {A = ℕ} 0 1 = cc in absurd (omega arith),
+      λ e. absurd (true≢false e),
     )
 
 pub plain-spec : {M : Type 1} → statement M

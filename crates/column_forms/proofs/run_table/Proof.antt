@@ -2,12 +2,10 @@
 use mathlib.Core.Path.{_≡_, refl}
 use Prim.Native.Nat.{_-_, _^_, _≤_}
 use native.Mathlib.Omega.{arith}
-use lib.Pow.{pow-mono}
-use native.Mathlib.Nat.{two-pow-succ}
-use native.Mathlib.Numerals.{add-one}
 use Rattle.regular.specs.Columns.{RunTable}
 use Rattle.column_forms.specs.TableLaws.{runs-none, runs-more}
 use borrow.Author.Needs.{needs}
+use Rattle.gf2.specs.DigitLaws.{pow-half, pow-twice}
 use Rattle.column_forms.proofs.run_table.Statement.{statement}
 use Rattle.column_forms.proofs.run_table.Tie as tie
 
@@ -27,12 +25,12 @@ copy-runs-requires : tie.Need-copy-runs-requires Inv-loop μ-loop
 copy-runs-requires c κs =
     let at = c .before .before .before in
     let d = at .loop .d in
-    (omega (arith, pow-mono {i = d} {j = 6} (omega arith)), at .loop .inv .2 .places)
+    (omega (arith, pow-half d 7 (omega arith) (omega arith)), at .loop .inv .2 .places)
 
 add-half : tie.Need-add-half Inv-loop μ-loop
 add-half c =
     let at = c .before .before .before .before in
-    record { fits = omega (arith, pow-mono {i = at .loop .d} {j = 6} (omega arith)) }
+    record { fits = omega (arith, pow-half (at .loop .d) 7 (omega arith) (omega arith)) }
 
 add-d : tie.Need-add-d Inv-loop μ-loop
 add-d c = search needs
@@ -45,7 +43,7 @@ loop-again c =
     let at = c .before .before .before .before in
     let i = at .loop .inv in (
       omega arith,
-      rw (add-one (at .loop .d)) (omega (arith, two-pow-succ (at .loop .d))),
+      pow-twice _ _ (i .1),
       runs-more _ _ _ _ _ _ _ (i .1) (c .before .before .unit-run .ensures) (i .2) (c .copy-runs .ensures),
     )
 

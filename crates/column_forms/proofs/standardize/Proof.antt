@@ -4,9 +4,10 @@ use mathlib.Core.Path.{_≡_, refl, sym, _∙_}
 use Prim.Native.Nat.{ℕ, _-_, _*_, _%_, _^_, _≤_}
 use native.Mathlib.Omega.{arith}
 use lib.ListN.{length}
-use lib.Pow.{shl-exact, pow-mono}
+use lib.Pow.{shl-exact}
 use Rattle.column_forms.specs.Walk.{Walk, walk-none, walk-old, walk-new, walk-room, walk-sums, walk-full, walk-short}
 use borrow.Author.Needs.{needs}
+use Rattle.gf2.specs.DigitLaws.{pow-most}
 use Rattle.column_forms.proofs.standardize.Statement.{statement}
 use Rattle.column_forms.proofs.standardize.Tie as tie
 
@@ -35,7 +36,7 @@ array-read-p : tie.Need-array-read-p Inv-loop μ-loop
 array-read-p c =
     let at = c .before .before in
     let m = at .before .args .m in
-    omega (arith, at .before .pre .2 (at .loop .f) (omega arith), pow-mono {i = m} {j = 7} (omega arith), c .wide-byte .ensures .0)
+    omega (arith, at .before .pre .2 (at .loop .f) (omega arith), pow-most m (omega arith), c .wide-byte .ensures .0)
 
 sub-columns : tie.Need-sub-columns Inv-loop μ-loop
 sub-columns c = search needs
@@ -70,7 +71,7 @@ double-requires c κs =
     let i = at .loop .inv in
     let s = at .before in (
       walk-room _ _ _ _ _ _ _ _ (i .4) (omega arith) (at .before .pre .2) (omega arith) _ (o .before .wide-byte .ensures .0) (o .if1 .left) (omega arith),
-      omega (arith, s .pre .2 (at .loop .f) (omega arith), pow-mono {i = s .args .m} {j = 7} (omega arith)),
+      omega (arith, s .pre .2 (at .loop .f) (omega arith), pow-most (s .args .m) (omega arith)),
       i .2,
       i .3,
       walk-sums _ _ _ _ _ _ _ _ (i .4) (s .pre .2) (omega arith),

@@ -1,12 +1,11 @@
 -- `table_forms::all_below` meets its contract. The invariant: every run passed is below the end. The measure is what is left of the runs. Assumes nothing.
-use mathlib.Core.Path.{sym}
+use mathlib.Core.Bool.{true≢false, false≢true}
 use Prim.Native.Nat.{ℕ, _-_, _<_, _≤_}
 use native.Mathlib.Omega.{arith}
 use borrow.Author.Count.{below-more}
 use borrow.Author.Needs.{needs}
 use lib.ListN.{length, getD}
 use Rattle.gf2.specs.Places.{place-in, in-place}
-use Rattle.table_forms.specs.Turns.{never}
 use Rattle.table_forms.proofs.all_below.Statement.{statement}
 use Rattle.table_forms.proofs.all_below.Tie as tie
 
@@ -33,7 +32,7 @@ returns c =
     let at = c .before .before .before .before in
     let t = at .before .before .args .t .now in
     let i = at .loop .i in
-    ((λ e. never (sym e)), λ e. (getD t i 0, (place-in t i (omega arith), omega arith)))
+    ((λ e. absurd (false≢true e)), λ e. (getD t i 0, (place-in t i (omega arith), omega arith)))
 
 add-i : tie.Need-add-i Inv-loop μ-loop
 add-i c = search needs
@@ -50,7 +49,7 @@ returns-2 : tie.Need-returns-2 Inv-loop μ-loop
 returns-2 c =
     let at = c .before in
     let t = at .before .before .args .t .now in
-    ((λ e x m. let p = in-place t x m in omega (arith, p .1 .1, at .loop .inv .1 (p .0) (omega (arith, p .1 .0)))), λ e. never e)
+    ((λ e x m. let p = in-place t x m in omega (arith, p .1 .1, at .loop .inv .1 (p .0) (omega (arith, p .1 .0)))), λ e. absurd (true≢false e))
 
 pub all-below-spec : {M : Type 1} → statement M
 all-below-spec =

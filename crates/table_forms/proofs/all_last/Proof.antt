@@ -1,11 +1,11 @@
 -- `table_forms::all_last` meets its contract. The invariant: every run passed is the last with its levels. The measure is what is left of the runs. Assumes nothing.
-use mathlib.Core.Path.{_≡_, sym, ap}
+use mathlib.Core.Path.{_≡_, ap}
+use mathlib.Core.Bool.{true≢false, false≢true}
 use Prim.Native.Nat.{ℕ, _-_, _<_, _≤_}
 use native.Mathlib.Omega.{arith}
 use borrow.Author.Count.{below-more}
 use borrow.Author.Needs.{needs}
 use lib.ListN.{getD}
-use Rattle.table_forms.specs.Turns.{never}
 use Rattle.table_forms.proofs.all_last.Statement.{statement}
 use Rattle.table_forms.proofs.all_last.Tie as tie
 
@@ -38,7 +38,7 @@ returns c =
     let at = c .before .before .before .before .before in
     let place = at .before .args .place .now in
     let e = ap (λ (y : ℕ). getD place y 0) (c .before .before .wide .ensures .0) in
-    record { all = λ p. never (sym p); some = λ p. (at .loop .i, (omega arith, λ q. omega arith)) }
+    record { all = λ p. absurd (false≢true p); some = λ p. (at .loop .i, (omega arith, λ q. omega arith)) }
 
 add-i : tie.Need-add-i Inv-loop μ-loop
 add-i c = search needs
@@ -56,7 +56,7 @@ loop-again c =
 returns-2 : tie.Need-returns-2 Inv-loop μ-loop
 returns-2 c =
     let at = c .before in
-    record { all = λ e i h. at .loop .inv .1 i (omega arith); some = λ e. never e }
+    record { all = λ e i h. at .loop .inv .1 i (omega arith); some = λ e. absurd (true≢false e) }
 
 pub all-last-spec : {M : Type 1} → statement M
 all-last-spec =

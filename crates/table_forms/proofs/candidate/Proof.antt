@@ -1,11 +1,13 @@
 -- `table_forms::candidate` meets its contract. The invariant: the column so far has a bit for each basic factor passed, read off a run that has it alone low.
 -- The measure is what is left of the basic factors. Assumes nothing.
 use mathlib.Core.Path.{_≡_, refl, sym, ap, _∙_, subst}
+use mathlib.Core.Bool.{true≢false, false≢true}
 use Prim.Native.Nat.{ℕ, _-_, _^_, _<_, _≤_}
 use native.Mathlib.Omega.{arith}
 use borrow.Author.Needs.{needs}
 use lib.ListN.{getD}
-use Rattle.table_forms.specs.Turns.{never, half-next, half-small, read-below, read-more}
+use Rattle.gf2.specs.DigitLaws.{pow-half, pow-twice}
+use Rattle.table_forms.specs.Turns.{read-below, read-more}
 use Rattle.table_forms.specs.Walk.{Read}
 use Rattle.table_forms.proofs.candidate.Statement.{statement}
 use Rattle.table_forms.proofs.candidate.Tie as tie
@@ -28,7 +30,7 @@ mul-x c = search needs
 element-copy-out-x : tie.Need-element-copy-out-x Inv-loop μ-loop
 element-copy-out-x c =
     let at = c .before .before in
-    omega (arith, c .wide .ensures .0, half-small (at .loop .i) (at .loop .half) (at .loop .inv .1 .0) (omega arith))
+    omega (arith, c .wide .ensures .0, pow-half (at .loop .i) 7 (omega arith) (omega arith))
 
 mul-c : tie.Need-mul-c Inv-loop μ-loop
 mul-c c = omega (arith, c .before .before .before .before .before .pre .3 (c .before .wide .result))
@@ -43,8 +45,8 @@ returns c =
     let i = at .loop .i in
     let e : c .before .before .before .wide .result ≡ 2 ^ i = c .before .before .before .wide .ensures .0 ∙ at .loop .inv .1 .0 in
     record {
-      below = λ p. never (sym p);
-      reads = λ p. never (sym p);
+      below = λ p. absurd (false≢true p);
+      reads = λ p. absurd (false≢true p);
       missing = λ p. (i, (omega arith, λ q. c .if1 .taken (ap (λ (y : ℕ). getD (s .coords .now) (getD (s .place .now) y 0) 0) e ∙ q ∙ sym (at .loop .inv .1 .0))));
     }
 
@@ -65,13 +67,13 @@ level-requires c κs = search needs
 with-level-requires : tie.Need-with-level-requires Inv-loop μ-loop
 with-level-requires c κs =
     let at = c .before .before .before .before .before .before .before .before in
-    let l = half-small (at .loop .i) (at .loop .half) (at .loop .inv .1 .0) (omega arith) in
+    let l = pow-half (at .loop .i) 7 (omega arith) (omega arith) in
     (c .level .ensures .1, omega arith, at .loop .inv .1 .1 .0)
 
 add-half : tie.Need-add-half Inv-loop μ-loop
 add-half c =
     let at = c .before .before .before .before .before .before .before .before .before in
-    let l = half-small (at .loop .i) (at .loop .half) (at .loop .inv .1 .0) (omega arith) in
+    let l = pow-half (at .loop .i) 7 (omega arith) (omega arith) in
     search needs
 
 add-i : tie.Need-add-i Inv-loop μ-loop
@@ -91,7 +93,7 @@ loop-again c =
     let x = getD (s .args .place .now) (c .before .before .before .before .before .before .before .wide .result) 0 in (
       omega arith,
       (
-        half-next i half (at .loop .inv .1 .0),
+        pow-twice i half (at .loop .inv .1 .0),
         (
           rw (c .with-level .ensures) (read-below half d k (c .before .level .ensures .1) (at .loop .inv .1 .1 .0)),
           rw (c .with-level .ensures)
@@ -106,7 +108,7 @@ returns-2 : tie.Need-returns-2 Inv-loop μ-loop
 returns-2 c =
     let at = c .before in
     let e : at .loop .i ≡ at .before .before .args .basics = omega arith in
-    record { below = λ p. subst (λ (i : ℕ). at .loop .k < 2 ^ i) e (omega arith); reads = λ p j h. at .loop .inv .1 .1 .1 j (omega arith); missing = λ p. never p }
+    record { below = λ p. subst (λ (i : ℕ). at .loop .k < 2 ^ i) e (omega arith); reads = λ p j h. at .loop .inv .1 .1 .1 j (omega arith); missing = λ p. absurd (true≢false p) }
 
 pub candidate-spec : {M : Type 1} → statement M
 candidate-spec =

@@ -1,12 +1,12 @@
 -- `table_forms::fits` meets its contract. The invariant: the column fits every run passed. The measure is what is left of the runs. Assumes nothing.
 use mathlib.Core.Path.{sym, _∙_}
+use mathlib.Core.Bool.{true≢false, false≢true}
 use Prim.Native.Nat.{ℕ, _-_, _<_, _≤_}
 use native.Mathlib.Omega.{arith}
 use borrow.Author.Count.{below-more}
 use borrow.Author.Needs.{needs}
 use lib.ListN.{length}
 use Rattle.table_forms.specs.Walk.{FitsAt}
-use Rattle.table_forms.specs.Turns.{never}
 use Rattle.table_forms.proofs.fits.Statement.{statement}
 use Rattle.table_forms.proofs.fits.Tie as tie
 
@@ -43,7 +43,7 @@ parity-requires c κs = search needs
 returns : tie.Need-returns Inv-loop μ-loop
 returns c =
     let at = c .before .before .before .before .before .before .before in
-    record { all = λ e. never (sym e); some = λ e. (at .loop .i, (omega arith, λ q. c .if1 .taken (c .before .before .before .level .ensures .0 ∙ q ∙ sym (c .before .parity .ensures .0)))) }
+    record { all = λ e. absurd (false≢true e); some = λ e. (at .loop .i, (omega arith, λ q. c .if1 .taken (c .before .before .before .level .ensures .0 ∙ q ∙ sym (c .before .parity .ensures .0)))) }
 
 add-i : tie.Need-add-i Inv-loop μ-loop
 add-i c = search needs
@@ -59,7 +59,7 @@ loop-again c =
 returns-2 : tie.Need-returns-2 Inv-loop μ-loop
 returns-2 c =
     let at = c .before in
-    record { all = λ e i h. at .loop .inv .1 i (omega arith); some = λ e. never e }
+    record { all = λ e i h. at .loop .inv .1 i (omega arith); some = λ e. absurd (true≢false e) }
 
 pub fits-spec : {M : Type 1} → statement M
 fits-spec =
