@@ -1,7 +1,7 @@
 # Reads the log of a must-fail edit. A line for each function that was refused and for each law that an error names, its fields between tabs:
 #   name, account, need, quote
 # account: 'own' if a fact of it no longer holds ('law' for a law); 'callee' if it calls a function that is not proved; 'place' if its proof file lost a place, so
-# that the proof rather than a fact fails. need: what the first error in its proof file names. quote: what that error says, in its own words, shortened:
+# that the proof rather than a fact fails, or a law cannot be read. need: what the first error in its proof file names. quote: what that error says, in its own words, shortened:
 #   - of two types, sides or indices that differ, the statement of where they do, as computed if the error has that, else as printed;
 #   - of numbers at which a need fails, the first three; of a goal that no proof was found of, that statement;
 #   - in each term modules and the way to a name are left out, and it ends in '..' after 60 bytes, at a blank; a term in the prover's own words is its head and '..'.
@@ -122,6 +122,7 @@ function take_error(    place, need, text, name, names, k) {
     if (text ~ /was not admitted/) return
     sub(/:[0-9]+:[0-9]+$/, "", place)
     if (place !~ /\/proofs\/.*\/Proof\.antt$/) {
+        if (!of_a_fact(need, text)) unread[need] = 1
         if (!(need in laws)) { laws[need] = quote(text); law[++law_count] = need }
         return
     }
@@ -161,5 +162,5 @@ function take_error(    place, need, text, name, names, k) {
 }
 END {
     take_error()
-    for (k = 1; k <= law_count; k++) print law[k] "\tlaw\t" law[k] "\t" laws[law[k]]
+    for (k = 1; k <= law_count; k++) print law[k] "\t" (law[k] in unread ? "place" : "law") "\t" law[k] "\t" laws[law[k]]
 }

@@ -5,10 +5,11 @@
 //! long each took.
 //! `calls` makes one call on a plan with a guarded result list, `compare` holds its outcome against the checking program; `pairs` and
 //! `compare_pairs` do so for the comparison of two plans, `forms` for the smallest form, `catalogues` for the catalogue, `books` for the book,
-//! `program` for what the program `plans` prints, `record_calls` for the calls that C cannot make and the program `records` makes. `random` is a small generator with a seed, `samples` makes plans from it, good and
-//! damaged, `known` and `hard` plans that are compared in pairs, and `published` reads the rows of document 000's Appendix B. `trial` makes
-//! any number of calls of every function. `recorded` writes calls as bytes, and `replay` makes them again, with lists in the `blocks` that
-//! `valgrind` watches.
+//! `program` for what the program `plans` prints, `record_calls` for the calls that C cannot make and the program `records` makes. `random` is a
+//! small generator with a seed, `samples` makes plans from it, good and damaged, `known` and `hard` plans that are compared in pairs, and
+//! `published` reads the rows of document 000's Appendix B. `trial` makes any number of calls of every function. `recorded` writes calls as bytes,
+//! and `replay` makes them again, with lists in the `blocks` that `valgrind` watches. `repository` has the repository's own files, for the tests that
+//! hold its pages to them.
 
 pub mod blocks;
 pub mod books;
@@ -31,6 +32,7 @@ pub mod record_calls;
 pub mod recorded;
 pub mod records;
 pub mod replay;
+pub mod repository;
 pub mod samples;
 pub mod trial;
 pub mod valgrind;

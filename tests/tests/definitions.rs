@@ -75,7 +75,8 @@ fn stands_alone(path: &Path) -> bool {
 #[test]
 fn every_definition_and_law_is_used_or_named_on_a_page() {
     let texts: Vec<(PathBuf, String)> = sources(&["antt", "rt"]).into_iter().map(|path| (path.clone(), read(&path))).collect();
-    let blocks: Vec<(&Path, Vec<&str>)> = texts.iter().flat_map(|(path, text)| paragraphs(text).into_iter().map(move |block| (path.as_path(), block))).collect();
+    let blocks: Vec<(&Path, Vec<&str>)> =
+        texts.iter().flat_map(|(path, text)| paragraphs(text).into_iter().map(move |block| (path.as_path(), block))).collect();
     let mut places: BTreeMap<&str, BTreeSet<usize>> = BTreeMap::new();
     for (at, (_, block)) in blocks.iter().enumerate() {
         for word in block.iter().flat_map(|line| words(line)) {
@@ -85,7 +86,9 @@ fn every_definition_and_law_is_used_or_named_on_a_page() {
     let named = named();
     let mut dead = Vec::new();
     let mut seen = 0;
-    for (at, (path, block)) in blocks.iter().enumerate().filter(|(_, (path, _))| path.extension().is_some_and(|end| end == "antt") && !stands_alone(path)) {
+    for (at, (path, block)) in
+        blocks.iter().enumerate().filter(|(_, (path, _))| path.extension().is_some_and(|end| end == "antt") && !stands_alone(path))
+    {
         let own = block.iter().take_while(|line| line.trim() != "where");
         for name in own.filter_map(|line| declared(line)).filter(|name| !name.ends_with("-spec")) {
             seen += 1;
