@@ -182,7 +182,7 @@ uint8_t plan_smallest_of_plans(size_t n, size_t g, const uint8_t *plans, size_t 
  *   PLAN_REFUSED_FACTORS,
  *   PLAN_REFUSED_GENERATORS,
  *   PLAN_REFUSED_RESOLUTION  0; the list is untouched
- * The largest catalogue, N 16, G 9, R 3, has 745,413 entries and takes some six seconds; most take milliseconds. */
+ * The largest catalogue, N 16, G 9, R 3, has 745,413 entries and takes some five seconds; most take milliseconds. */
 struct plan_entries {
     uint8_t number;
     size_t count;

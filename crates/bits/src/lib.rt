@@ -34,10 +34,10 @@ pub fn wide(x: u16) -> usize
 }
 
 // A column or another byte as an index.
-pub fn wide_byte(x: u8) -> usize
-    ensures { λ r. ⌜ (r ≡ x) × (r < 256) ⌝ }
+pub fn wide_byte(column: u8) -> usize
+    ensures { λ r. ⌜ (r ≡ column) × (r < 256) ⌝ }
 {
-    x as usize
+    column as usize
 }
 
 // 2^k. Called by the admission of plans, their measures and forms, the searches and the check of a witness.

@@ -1,6 +1,6 @@
 // Pattern, resolution and distance counts of a plan in any of its forms.
 ghost use mathlib.Core.Path.{_≡_};
-ghost use Prim.Native.Nat.{_+_, _-_};
+ghost use Prim.Native.Nat.{ℕ, _+_, _-_, _≤_};
 ghost use lib.ListN.{getD};
 ghost use Rattle.regular.specs.Runs.{runsOf};
 ghost use Rattle.regular.specs.Words.{Generated};
@@ -19,7 +19,7 @@ use regular::ResolutionAnswer;
 // which admit their plans first.
 pub fn pattern(n: usize, g: usize, columns: [u8; 16]) -> [u16; 16]
     requires { ⌜ Ready n g columns ⌝ }
-    ensures { λ r. ⌜ Pattern n (planOf n (n - g) columns) r ⌝ }
+    ensures { λ r. ⌜ Pattern n (planOf n (n - g) columns) r × ((i : ℕ) → n ≤ i → getD r i 0 ≡ 0) ⌝ }
 {
     let words = generators::generators(n, columns);
     patterns::pattern_of(n, g, words)

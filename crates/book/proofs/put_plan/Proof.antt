@@ -16,7 +16,7 @@ returns : tie.Need-returns
 returns c =
     let q = c .before .before .put-entry in
     let p = c .before .before .before .before .pattern in
-    record { counts = p .result; pattern = p .ensures; bytes = q .ensures .0; next = q .ensures .1 }
+    record { counts = p .result; pattern = p .ensures .0; bytes = q .ensures .0; next = q .ensures .1 }
 
 pub put-plan-spec : {M : Type 1} → statement M
 put-plan-spec = tie.close (tie.spec pattern-requires put-entry-requires same-length returns)

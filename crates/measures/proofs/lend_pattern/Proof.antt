@@ -42,7 +42,7 @@ returns-2 c =
     let z = s .pre e .size in
     let d = c .before .before .before .before .before .pattern in
     let l = c .before .before .lend-numbers in
-    pattern-lends e (omega (arith, z .most)) (d .ensures) (l .ensures)
+    pattern-lends e (omega (arith, z .most)) (d .ensures .0) (l .ensures)
 
 pub lend-pattern-spec : {M : Type 1} → statement M
 lend-pattern-spec =

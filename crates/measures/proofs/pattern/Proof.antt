@@ -12,7 +12,7 @@ pattern-of-requires c κs = (c .before .pre .size .most, few-generators (c .befo
 
 returns : tie.Need-returns
 returns c =
-    words-pattern (c .before .before .pre) (c .before .generators .ensures) (c .pattern-of .ensures)
+    (words-pattern (c .before .before .pre) (c .before .generators .ensures) (c .pattern-of .ensures), c .pattern-of .ensures .unused)
 
 pub pattern-spec : {M : Type 1} → statement M
 pattern-spec = tie.close (tie.spec generators-requires pattern-of-requires returns)

@@ -15,7 +15,7 @@ resolution-of-requires c κs =
 
 returns : tie.Need-returns
 returns c =
-    resolution-made (c .before .before .before .if1 .taken) (c .before .pattern .ensures) (c .resolution-of .ensures)
+    resolution-made (c .before .before .before .if1 .taken) (c .before .pattern .ensures .0) (c .resolution-of .ensures)
 
 returns-2 : tie.Need-returns-2
 returns-2 c = record { same = refl; refused = λ _. refl; made = λ e. absurd (c .if1 .left e) }

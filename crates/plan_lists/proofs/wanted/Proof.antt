@@ -34,7 +34,7 @@ returns-3 c =
     let s = q .before .before .before .before .before .before in
     let a = s .args in
     let plan = planOf (a .n) (a .n - a .g) (a .plan .columns) in
-    let res = resolved (q .before .before .pattern .ensures) (q .before .resolution-of .ensures) (q .wide-byte .ensures .0) in
+    let res = resolved (q .before .before .pattern .ensures .0) (q .before .resolution-of .ensures) (q .wide-byte .ensures .0) in
     judges (a .n) (a .r) plan (a .plan .number) 0 (q .before .before .before .before .before .if1 .left) (wanted-none (a .n) (a .r) plan (resolved-none (a .n) (a .r) plan (q .wide-byte .result) res (c .if3 .taken)))
 
 returns-4 : tie.Need-returns-4
@@ -43,7 +43,7 @@ returns-4 c =
     let s = q .before .before .before .before .before .before in
     let a = s .args in
     let plan = planOf (a .n) (a .n - a .g) (a .plan .columns) in
-    let res = resolved (q .before .before .pattern .ensures) (q .before .resolution-of .ensures) (q .wide-byte .ensures .0) in
+    let res = resolved (q .before .before .pattern .ensures .0) (q .before .resolution-of .ensures) (q .wide-byte .ensures .0) in
     judges (a .n) (a .r) plan (a .plan .number) 7 (q .before .before .before .before .before .if1 .left) (resolved-short (a .n) (a .r) plan (q .wide-byte .result) res (c .before .if3 .left) (c .if4 .taken))
 
 returns-5 : tie.Need-returns-5
@@ -52,7 +52,7 @@ returns-5 c =
     let s = q .before .before .before .before .before .before in
     let a = s .args in
     let plan = planOf (a .n) (a .n - a .g) (a .plan .columns) in
-    let res = resolved (q .before .before .pattern .ensures) (q .before .resolution-of .ensures) (q .wide-byte .ensures .0) in
+    let res = resolved (q .before .before .pattern .ensures .0) (q .before .resolution-of .ensures) (q .wide-byte .ensures .0) in
     judges (a .n) (a .r) plan (a .plan .number) 0 (q .before .before .before .before .before .if1 .left) (wanted-none (a .n) (a .r) plan (resolved-long (a .n) (a .r) plan (q .wide-byte .result) res (c .if4 .left)))
 
 pub wanted-spec : {M : Type 1} → statement M
