@@ -25,7 +25,7 @@ returns c =
     let p = c .before .before .pattern in
     let q = c .before .pattern2 in
     let w = c .better .ensures in (
-      λ e. record { p = q .result; q = p .result; of-t = q .ensures; of-s = p .ensures; better = w .0 e },
+      λ e. record { p = q .result; q = p .result; of-t = q .ensures .0; of-s = p .ensures .0; better = w .0 e },
       λ e less. w .1 e (less-better (a .n) (a .n - a .g) (planOf (a .n) (a .n - a .g) (a .second)) (planOf (a .n) (a .n - a .g) (a .first)) (q .result) (p .result) (omega arith) (q .ensures .0) (p .ensures .0) less),
     )
 
