@@ -6,14 +6,14 @@ use mathlib.Core.List.{List}
 use native.Mathlib.Omega.{arith}
 use lib.ListN.{length, getD, replicate}
 use Rattle.regular.specs.Sizes.{Size}
-use Rattle.regular.specs.Runs.{Runs, Agree}
+use Rattle.regular.specs.Runs.{Runs}
 use Rattle.regular.specs.Columns.{planOf, Spans}
 use Rattle.regular.specs.Refusals.{SizeFault, ColumnsFault, ListFault, either, Lowest, columnsFaults}
 use Rattle.regular.specs.RefusalLaws.{lowest-same, lowest-first, lowest-then, size-most}
 use Rattle.regular.specs.Accepted.{size-accepted}
 use Rattle.regular.specs.declared.Admitted.{Admitted}
 use Rattle.standard.specs.Form.{StandardFor, Plain}
-use Rattle.standard.specs.Runs.{run-cols}
+use Rattle.standard.specs.Runs.{plan-cols}
 use Rattle.standard.specs.Total.{total-cols}
 use Rattle.words.specs.Switches.{agree-trans, short-agree}
 use Rattle.admission.specs.Admission.{Admission, Columned}
@@ -64,13 +64,7 @@ array-refused n m c k h l = record {
   unused = λ e. absurd (omega arith);
 }
 
--- columns that agree below n: the same plan, the same faults
-plan-into : (n m : ℕ) (c d : List ℕ) → ((f : ℕ) → f < n → getD c f 0 ≡ getD d f 0) → (x : ℕ) → planOf n m c x → planOf n m d x
-plan-into n m c d same x p = (p .0, (p .1 .0, p .1 .1 ∙ run-cols c d n (p .0) same))
-
-plan-cols : (n m : ℕ) (c d : List ℕ) → ((f : ℕ) → f < n → getD c f 0 ≡ getD d f 0) → Agree (planOf n m c) (planOf n m d)
-plan-cols n m c d same = record { into = plan-into n m c d same; onto = plan-into n m d c (λ f h. sym (same f h)) }
-
+-- columns that agree below n: the same faults
 spans-cols : (n m : ℕ) (c d : List ℕ) → ((f : ℕ) → f < n → getD c f 0 ≡ getD d f 0) → Spans n m c → Spans n m d
 spans-cols n m c d same sp v h = let w = sp v h in (w .0, (w .1 .0, sym (total-cols c d n (w .0) same) ∙ w .1 .1))
 

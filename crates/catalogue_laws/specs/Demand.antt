@@ -19,11 +19,11 @@ use Rattle.regular.specs.Smallest.{Equal, Before, Smallest, Catalogue, Demand3}
 use Rattle.regular.specs.Words.{NoShort}
 use Rattle.standard.specs.FromColumns.{spans-apart, runs-table}
 use Rattle.standard.specs.Model.{runTable}
-use Rattle.words.specs.Switches.{agree-sym, no-short-agree}
+use Rattle.standard.specs.Runs.{plan-cols}
+use Rattle.words.specs.Switches.{agree-sym, no-short-agree, agree-refl}
 use Rattle.smallest_laws.specs.Beating.{own-unique, smallest-own, smallest-moved}
 use Rattle.smallest_laws.specs.Dictionary.{before-irrefl, before-equal, equal-before, equal-sym, equal-refl, before-trans, equal-trans}
 use Rattle.smallest_laws.specs.Exists.{smallest-exists}
-use Rattle.smallest_laws.specs.Growth.{plan-equal}
 
 module _ (n m r count : ℕ) (entry : ℕ → List ℕ) (k : Catalogue n m r count entry) where
   -- entries with equal columns stand at one place
@@ -46,8 +46,8 @@ module _ (n m r count : ℕ) (entry : ℕ → List ℕ) (k : Catalogue n m r cou
       let s = f .1 .same in
       let i = k .complete c (record { smallest = smallest-own n m (runsOf t) c (f .1); long = same-no-short n (runsOf t) (planOf n m c) s r ns }) in
       let e = equal-sym n (entry (i .0)) c (i .1 .1) in
-      let to : Same n (runsOf t) (planOf n m (entry (i .0))) = same-agree n (runsOf t) (runsOf t) (planOf n m c) (planOf n m (entry (i .0))) (record { into = λ x p. p; onto = λ x p. p })
-      (plan-equal n m c (entry (i .0)) e) s in
+      let to : Same n (runsOf t) (planOf n m (entry (i .0))) = same-agree n (runsOf t) (runsOf t) (planOf n m c) (planOf n m (entry (i .0))) (agree-refl (runsOf t))
+      (plan-cols n m c (entry (i .0)) e) s in
       record {
         place = i .0;
         within = i .1 .0;
@@ -78,7 +78,7 @@ whole n m r count entry h k =
     let own : (c : List ℕ) → Agree (planOf n m c) (runsOf (runTable n m c)) = plan-runs n m in
     let tab : (i : ℕ) → i < count → Table n m (runTable n m (entry i)) = λ i l. runs-table n m (entry i) (spans-apart n m (entry i) (k .sound i l .smallest .columns .rank)) in
     let back : (c : List ℕ) → Same n (runsOf (runTable n m c)) (planOf n m c) = λ c.
-    same-agree n (planOf n m c) (runsOf (runTable n m c)) (planOf n m c) (planOf n m c) (own c) (record { into = λ x p. p; onto = λ x p. p }) (same-refl n (planOf n m c) (plan-within n m c)) in
+    same-agree n (planOf n m c) (runsOf (runTable n m c)) (planOf n m c) (planOf n m c) (own c) (agree-refl (planOf n m c)) (same-refl n (planOf n m c) (plan-within n m c)) in
     record {
       one = demand-3 n m r count entry k h;
       table = tab;

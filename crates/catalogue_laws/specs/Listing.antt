@@ -13,9 +13,10 @@ use Rattle.regular.specs.Columns.{planOf}
 use Rattle.regular.specs.Smallest.{Equal, Before, Entry, Catalogue}
 use Rattle.regular.specs.Words.{letters, total}
 use Rattle.standard.specs.Form.{unitsBefore}
+use Rattle.standard.specs.Units.{units-same}
 use Rattle.smallest_laws.specs.Beating.{own-beaten}
 use Rattle.smallest_laws.specs.Dictionary.{equal-sym}
-use Rattle.smallest_laws.specs.Growth.{agree-entry, agree-units, agree-left, entry-units, entry-none, next-rising, next-long, long-next}
+use Rattle.smallest_laws.specs.Growth.{agree-entry, agree-left, entry-units, entry-none, next-rising, next-long, long-next}
 use Rattle.smallest_laws.specs.Prefix.{smallest-next}
 use Rattle.smallest_laws.specs.Search.{any-none, none-any, beaten, search-beats, search-smallest}
 use Rattle.catalogue_laws.specs.Model.{short, fits, may, choose, branch, listing, entries}
@@ -49,7 +50,7 @@ module _ (r k : ℕ) (c : List ℕ) (e : Entry k (unitsBefore c k) r c) (some : 
       let rise = next-rising k r c e some up top in
       record {
         smallest = search-smallest (suc k) u c rise (not-true (beaten (suc k) c u []) (b .1));
-        long = next-long k (unitsBefore c k) u r c (e .smallest .columns .below) (rise .below) (e .long) (not-short r k c (not-true (short r k c) (b .0)));
+        long = next-long k u r c (unitsBefore c k) (rise .below) (e .long) (not-short r k c (not-true (short r k c) (b .0)));
       }
 
   entry-fits : Entry (suc k) (unitsBefore c (suc k)) r c → fits r k c ≡ true
@@ -59,7 +60,7 @@ module _ (r k : ℕ) (c : List ℕ) (e : Entry k (unitsBefore c k) r c) (some : 
       both-and (leb (getD c k 0) (2 ^ unitsBefore c k)) (not (short r k c) && not (beaten (suc k) c u []))
       (le-leb (getD c k 0) (2 ^ unitsBefore c k) (smallest-next (suc k) u (planOf (suc k) u c) c (h .smallest) k (omega arith)))
       (both-and (not (short r k c)) (not (beaten (suc k) c u []))
-      (false-not (short r k c) (long-short r k c (long-next k (unitsBefore c k) u r c (h .long))))
+      (false-not (short r k c) (long-short r k c (long-next k u r c (h .long))))
       (false-not (beaten (suc k) c u []) (⊎-elim
       (λ q. let w = search-beats (suc k) u c (h .smallest .columns) q in
       absurd (own-beaten (suc k) u c (h .smallest .columns) (w .0) (w .1 .0) (w .1 .1) (h .smallest)))
@@ -202,7 +203,7 @@ module _ (n m r : ℕ) where
     from = λ c i l. absurd i;
     order = tt;
     complete = λ d i a z.
-        let u = agree-units n m r d i p n (omega arith) (equal-sym n p d (subst (λ (j : ℕ). Equal j p d) h a)) in
+        let u = units-same p d n (subst (λ (j : ℕ). Equal j p d) h a) in
         absurd (clash (eq-eqb (unitsBefore p (length p)) m (ap (unitsBefore p) h ∙ u ∙ entry-units n m r d i)) e);
   }
 

@@ -8,21 +8,20 @@ use native.Mathlib.Nat.{two-pow-succ}
 use native.Mathlib.Numerals.{add-one}
 use native.Mathlib.Omega.{arith}
 use native.Mathlib.Decide.{ℕ-discrete}
-use borrow.Author.Tests.{ne-eqb}
 use lib.Bits.{bitXor}
 use lib.Pow.{pow-pos}
 use lib.ListN.{length, getD, set, replicate, length-append}
 use lib.Seq.{getD-set-same}
 use Rattle.gf2.specs.DigitLaws.{pow-inj, pow-most, pow-half}
-use Rattle.gf2.specs.Fill.{zeros}
+use Rattle.gf2.specs.Fill.{zeros, set-unused}
 use Rattle.regular.specs.Columns.{runOf, planOf, Below, Spans}
 use Rattle.regular.specs.Words.{total, Independent}
 use Rattle.standard.specs.Form.{unitsBefore, StandardFor}
 use Rattle.standard.specs.Finding.{Found, is-found, not-found}
 use Rattle.standard.specs.Runs.{run-lt, total-lt}
 use Rattle.standard.specs.Total.{total-none, InSpan, span-at, span-total, independent-once}
-use Rattle.standard.specs.Units.{units-next}
-use Rattle.standard.specs.NextColumn.{set-units, set-column, set-next, set-unused}
+use Rattle.standard.specs.Units.{units-next, units-stay}
+use Rattle.standard.specs.NextColumn.{set-units, set-column, set-next}
 use Rattle.standard.specs.FromColumns.{independent-spans, runs-all}
 use Rattle.column_forms.specs.Tables.{Held, Doubles, Grown}
 use Rattle.column_forms.specs.TableLaws.{held-more, held-same}
@@ -44,9 +43,6 @@ pub record Walk (n m : ℕ) (c : List ℕ) (f half : ℕ) (sums places a : List 
   pub unused : (g : ℕ) → f ≤ g → getD a g 0 ≡ 0
 
 -- no unit more where the next column is none
-units-stay : (a : List ℕ) (f : ℕ) → getD a f 0 < 2 ^ unitsBefore a f → unitsBefore a (suc f) ≡ unitsBefore a f
-unfolding unitsBefore
-units-stay a f h = rw (ne-eqb (getD a f 0) (2 ^ unitsBefore a f) (λ e. omega arith)) (omega arith)
 
 -- nothing passed: the empty basis reaches 0
 pub walk-none : (n m : ℕ) (c : List ℕ) → Walk n m c 0 1 (replicate 128 0) (set (replicate 128 0) 0 1) (replicate 16 0)
@@ -105,7 +101,7 @@ module _ (n m : ℕ) (c : List ℕ) (f half : ℕ) (sums places a : List ℕ) (w
         most = w .most;
         held = w .held;
         reached = w .reached;
-        units = rw (add-one f) (units-stay (set a f i) f lt ∙ u ∙ w .units);
+        units = rw (add-one f) (units-stay (set a f i) f (λ q. omega arith) ∙ u ∙ w .units);
         next = set-next a f i l (omega arith) (w .next);
         column = set-column a f i l (λ g v. (v < half) × (total (w .basis) r v ≡ getD c g 0)) o (w .column);
         unused = set-unused a f i (w .unused);

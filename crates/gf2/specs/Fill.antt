@@ -1,6 +1,6 @@
 -- A list that is filled from its start: place k holds F k below j, and what it held at entry from there on. Nothing filled, one place more;
--- a table of zeros at entry is zero past what is filled.
-use mathlib.Core.Path.{_≡_, refl, _∙_}
+-- a list set at one place; a table of zeros at entry is zero past what is filled.
+use mathlib.Core.Path.{_≡_, refl, _∙_, sym, subst}
 use mathlib.Core.Logic.{by-cases}
 use mathlib.Core.List.{List}
 use Prim.Native.Nat.{ℕ, zero, suc, _+_, _<_, _≤_}
@@ -28,6 +28,15 @@ module _ (F : ℕ → ℕ) (entry : List ℕ) (j : ℕ) (t : List ℕ) (f : Fill
             (λ ne. getD-set-other t j k v 0 ne ∙ f .done k (omega arith));
         kept = λ k l. getD-set-other t j k v 0 (λ p. omega arith) ∙ f .kept k (omega arith);
       }
+
+-- a list with y set at the place x: what holds at that place and at every other; what is unused past it
+pub each-place : (t : List ℕ) (x y : ℕ) → x < length t → (P : ℕ → ℕ → Type 0) → P x y → ((v : ℕ) → (v ≡ x → ⊥) → P v (getD t v 0)) → (v : ℕ) → P v (getD (set t x y) v 0)
+each-place t x y l P here other v = by-cases (ℕ-discrete v x)
+    (λ q. subst (λ (z : ℕ). P z (getD (set t x y) z 0)) (sym q) (subst (λ (z : ℕ). P x z) (sym (getD-set-same t x y 0 l)) here))
+    (λ ne. subst (λ (z : ℕ). P v z) (sym (getD-set-other t x v y 0 ne)) (other v ne))
+
+pub set-unused : (t : List ℕ) (x y : ℕ) → ((v : ℕ) → x ≤ v → getD t v 0 ≡ 0) → (v : ℕ) → x + 1 ≤ v → getD (set t x y) v 0 ≡ 0
+set-unused t x y un v h = getD-set-other t x v y 0 (λ e. omega arith) ∙ un v (omega arith)
 
 -- a table of zeros
 pub zeros : (n k : ℕ) → _≡_ {A = ℕ} (getD (replicate n 0) k 0) 0

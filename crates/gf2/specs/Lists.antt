@@ -100,7 +100,7 @@ in-left x [] ys m = absurd m
 in-left x (z ∷ xs) ys (inl e) = inl e
 in-left x (z ∷ xs) ys (inr m) = inr (in-left x xs ys m)
 
-in-right : (x : ℕ) (xs ys : List ℕ) → In x ys → In x (xs ++ ys)
+pub in-right : (x : ℕ) (xs ys : List ℕ) → In x ys → In x (xs ++ ys)
 in-right x [] ys m = m
 in-right x (z ∷ xs) ys m = inr (in-right x xs ys m)
 

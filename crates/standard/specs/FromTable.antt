@@ -44,21 +44,21 @@ module _ (n : ℕ) (u : List ℕ) (s : Space n u) where
   abbrev cols : List ℕ
   cols = columnsTo u n
 
-  after-at : (f : ℕ) → f ≤ n → After u (basicsAt u f) f
-  after-at f h = after-is u (s .closed) (s .zero-in) f
+  after-at : (f : ℕ) → After u (basicsAt u f) f
+  after-at f = after-is u (s .closed) (s .zero-in) f
 
-  basics-few : (f : ℕ) → f ≤ n → 2 ^ length (basicsAt u f) ≤ length u
-  basics-few f h =
+  basics-few : (f : ℕ) → 2 ^ length (basicsAt u f) ≤ length u
+  basics-few f =
       let bs = basicsAt u f in
       let c = coordOf bs in
       let k = 2 ^ length bs in
       let l : length (upto k) ≤ length (image c u) = fewer (upto k) (image c u) (upto-different k)
-      (λ j m. let o = after-at f h .onto j (upto-lt k j m) in subst (λ (i : ℕ). In i (image c u)) (o .1 .1) (in-image c u (o .0) (o .1 .0))) in
+      (λ j m. let o = after-at f .onto j (upto-lt k j m) in subst (λ (i : ℕ). In i (image c u)) (o .1 .1) (in-image c u (o .0) (o .1 .0))) in
       omega (arith, upto-length k, image-length c u)
 
   run-of-coord : (x : ℕ) → In x u → x ≡ runOf cols n (coordOf (basicsAt u n) x)
   run-of-coord x m =
-      let a = after-at n (omega arith) in
+      let a = after-at n in
       sym (mod-eq-of-lt (s .within x m))
       ∙ run-is cols (coordOf (basicsAt u n) x) x n
       (λ g h. a .fits g h .1 x m ∙ ap (odd (coordOf (basicsAt u n) x)) (sym (columns-at u n g h)))
@@ -75,24 +75,24 @@ module _ (n : ℕ) (u : List ℕ) (s : Space n u) where
 
   units-at : (f : ℕ) → f ≤ n → unitsBefore cols f ≡ length (basicsAt u f)
   unfolding unitsBefore
-  units-at zero h = omega (arith, after-at zero h .small)
+  units-at zero h = omega (arith, after-at zero .small)
   units-at (suc f) h =
       let e = units-at f (omega arith) in
       let p = columns-at u n f (omega arith) in
-      let q = next-is u (s .closed) f (after-at f (omega arith)) .units in
+      let q = next-is u (s .closed) f (after-at f) .units in
       rw (e, p) (sym q)
 
   module _ (m : ℕ) (count : length u ≡ 2 ^ m) where
     rank-is : length (basicsAt u n) ≡ m
     rank-is =
-        let p = pow-le-inv (length (basicsAt u n)) m (omega (arith, basics-few n (omega arith))) in
+        let p = pow-le-inv (length (basicsAt u n)) m (omega (arith, basics-few n)) in
         let q = pow-le-inv m (length (basicsAt u n)) (omega (arith, basics-many)) in
         omega arith
 
     space-form : StandardForm n m cols
     space-form =
         record {
-          next = λ f h. rw (columns-at u n f h, units-at f (omega arith)) (next-is u (s .closed) f (after-at f (omega arith)) .column-le);
+          next = λ f h. rw (columns-at u n f h, units-at f (omega arith)) (next-is u (s .closed) f (after-at f) .column-le);
           units = units-at n (omega arith) ∙ rank-is;
         }
 
@@ -101,7 +101,7 @@ module _ (n : ℕ) (u : List ℕ) (s : Space n u) where
 
     space-onto : (j : ℕ) → j < 2 ^ m → In (runOf cols n j) u
     space-onto j h =
-        let o = after-at n (omega arith) .onto j (subst (λ (b : ℕ). j < 2 ^ b) (sym rank-is) h) in
+        let o = after-at n .onto j (subst (λ (b : ℕ). j < 2 ^ b) (sym rank-is) h) in
         subst (λ (y : ℕ). In y u) (run-of-coord (o .0) (o .1 .0) ∙ ap (runOf cols n) (o .1 .1)) (o .1 .0)
 
 -- a regular table less its first run

@@ -1,15 +1,14 @@
--- Columns with one more, v, set at place f: the columns before it and their units stay, the places past it stay unused; what holds of each.
+-- Columns with one more, v, set at place f: the columns before it and their units stay; what holds of each.
 use mathlib.Core.Path.{_≡_, sym, ap, ap₂, _∙_, subst}
-use mathlib.Core.Logic.{by-cases}
 use mathlib.Core.List.{List}
 use Prim.Native.Nat.{ℕ, _+_, _^_, _≤_, _<_}
 use native.Mathlib.Numerals.{add-one}
 use native.Mathlib.Omega.{arith}
-use native.Mathlib.Decide.{ℕ-discrete}
 use lib.Dec.{eqb}
 use lib.ListN.{length, getD, set}
 use lib.Seq.{getD-set-same, getD-set-other}
 use Rattle.gf2.specs.Digits.{pick}
+use Rattle.gf2.specs.Fill.{each-place}
 use Rattle.standard.specs.Form.{unitsBefore}
 use Rattle.standard.specs.Units.{units-same}
 
@@ -17,15 +16,9 @@ module _ (a : List ℕ) (f v : ℕ) where
   pub set-units : (g : ℕ) → g ≤ f → unitsBefore (set a f v) g ≡ unitsBefore a g
   set-units g h = units-same (set a f v) a g (λ i l. getD-set-other a f i v 0 (λ e. omega arith))
 
-  pub set-unused : ((g : ℕ) → f ≤ g → getD a g 0 ≡ 0) → (g : ℕ) → f + 1 ≤ g → getD (set a f v) g 0 ≡ 0
-  set-unused un g h = getD-set-other a f g v 0 (λ e. omega arith) ∙ un g (omega arith)
-
   module _ (l : f < length a) where
     pub set-column : (P : ℕ → ℕ → Type 0) → P f v → ((g : ℕ) → g < f → P g (getD a g 0)) → (g : ℕ) → g < f + 1 → P g (getD (set a f v) g 0)
-    set-column P new old g h =
-        by-cases (ℕ-discrete g f)
-        (λ e. subst (λ (i : ℕ). P i (getD (set a f v) i 0)) (sym e) (subst (P f) (sym (getD-set-same a f v 0 l)) new))
-        (λ ne. subst (P g) (sym (getD-set-other a f g v 0 ne)) (old g (omega arith)))
+    set-column P new old = each-place a f v l (λ i x. i < f + 1 → P i x) (λ _. new) (λ i ne h. old i (omega arith))
 
     -- no column is past the next unit
     pub set-next : v ≤ 2 ^ unitsBefore a f → ((g : ℕ) → g < f → getD a g 0 ≤ 2 ^ unitsBefore a g) → (g : ℕ) → g < f + 1 → getD (set a f v) g 0 ≤ 2 ^ unitsBefore (set a f v) g

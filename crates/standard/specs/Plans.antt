@@ -1,4 +1,4 @@
--- Standard columns and the definitions of document 01: same plan, words, columns from 1 up.
+-- A set of factors is a word of a plan exactly if the columns of its factors cancel.
 use mathlib.Core.Path.{_≡_, refl, sym, ap, _∙_}
 use mathlib.Core.List.{List}
 use Prim.Native.Nat.{ℕ, _^_, _<_}

@@ -12,8 +12,9 @@ use lib.ListN.{getD}
 use Rattle.gf2.specs.DigitLaws.{xor-digit, low-bit}
 use Rattle.gf2.specs.Digits.{bit, odd}
 use Rattle.gf2.specs.Parity.{odd-lin-l, odd-lin-r, odd-lt, odd-zero-l, odd-zero-r, odd-shift, odd-times}
-use Rattle.regular.specs.Columns.{runOf}
+use Rattle.regular.specs.Columns.{runOf, planOf}
 use Rattle.regular.specs.Words.{total}
+use Rattle.regular.specs.Runs.{Agree}
 
 pub run-lt : (c : List ℕ) (n j : ℕ) → runOf c n j < 2 ^ n
 unfolding runOf
@@ -53,6 +54,13 @@ pub run-cols : (c d : List ℕ) (n j : ℕ) → ((f : ℕ) → f < n → getD c 
 unfolding runOf
 run-cols c d zero j h = refl
 run-cols c d (suc n) j h = ap₂ (λ (r x : ℕ). r + odd j x * 2 ^ n) (run-cols c d n j (λ f l. h f (omega arith))) (h n (omega arith))
+
+-- .. and the same plan
+pub plan-cols : (n m : ℕ) (c d : List ℕ) → ((f : ℕ) → f < n → getD c f 0 ≡ getD d f 0) → Agree (planOf n m c) (planOf n m d)
+plan-cols n m c d e = record {
+  into = λ x p. (p .0, (p .1 .0, p .1 .1 ∙ run-cols c d n (p .0) e));
+  onto = λ x p. (p .0, (p .1 .0, p .1 .1 ∙ sym (run-cols c d n (p .0) e)));
+}
 
 pub total-lt : (c : List ℕ) (n m w : ℕ) → ((f : ℕ) → f < n → getD c f 0 < 2 ^ m) → total c n w < 2 ^ m
 unfolding total

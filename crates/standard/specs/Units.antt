@@ -1,6 +1,6 @@
 -- Columns in standard form: where their units stand, and that they have rank m.
 use mathlib.Core.Path.{_≡_, refl, sym, ap, ap₂, _∙_}
-use mathlib.Core.Logic.{inl, inr, ⊎-elim, by-cases}
+use mathlib.Core.Logic.{inl, inr, ⊎-elim, by-cases, _≢_}
 use mathlib.Core.Bool.{Bool, true, false}
 use mathlib.Core.List.{List, [], _∷_}
 use Prim.Native.Nat.{ℕ, zero, suc, _+_, _-_, _*_, _%_, _^_, _≤_, _<_}
@@ -12,7 +12,7 @@ use lib.Dec.{eqb}
 use lib.Bits.{bitXor, xor-lt, xor-comm, xor-shifted}
 use lib.Pow.{pow-pos, pow-lt, pow-mono, mod-pow-add}
 use lib.ListN.{length, getD}
-use borrow.Author.Tests.{eqb-true}
+use borrow.Author.Tests.{eqb-true, eq-eqb, ne-eqb}
 use Rattle.gf2.specs.Digits.{bit, odd, pick}
 use Rattle.gf2.specs.DigitLaws.{bit-ext, bit-none, pow-most}
 use Rattle.gf2.specs.Parity.{odd-comm, odd-bit}
@@ -65,9 +65,25 @@ unfolding unitsBefore
 units-mono a f zero = let e : 0 + f ≡ f = omega arith in rw e (omega arith)
 units-mono a f (suc d) = let e : suc d + f ≡ suc (d + f) = omega arith in rw e (omega (arith, units-mono a f d))
 
+-- numbers of m bits have at most m units
+pub units-most : (m f : ℕ) (a : List ℕ) → Below f m a → unitsBefore a f ≤ m
+units-most m f a h =
+    by-cases (decLt m (unitsBefore a f))
+    (λ l. let o = units-found a f m l in absurd (omega (arith, h (o .0) (o .1 .0), o .1 .1)))
+    (λ l. omega arith)
+
+-- none before the first column, one more where the column is the next unit, else as many
+pub units-zero : (a : List ℕ) → unitsBefore a 0 ≡ 0
+unfolding unitsBefore
+units-zero a = refl
+
 pub units-next : (a : List ℕ) (f : ℕ) → getD a f 0 ≡ 2 ^ unitsBefore a f → unitsBefore a (suc f) ≡ unitsBefore a f + 1
 unfolding unitsBefore
-units-next a f e = rw (borrow.Author.Tests.eq-eqb (getD a f 0) (2 ^ unitsBefore a f) e)
+units-next a f e = rw (eq-eqb (getD a f 0) (2 ^ unitsBefore a f) e)
+
+pub units-stay : (a : List ℕ) (f : ℕ) → getD a f 0 ≢ 2 ^ unitsBefore a f → unitsBefore a (suc f) ≡ unitsBefore a f
+unfolding unitsBefore
+units-stay a f ne = rw (ne-eqb (getD a f 0) (2 ^ unitsBefore a f) ne) (omega arith)
 
 module _ (n m : ℕ) (a : List ℕ) (s : StandardForm n m a) where
   units-le : (f : ℕ) → f ≤ n → unitsBefore a f ≤ m

@@ -16,7 +16,7 @@ use Rattle.gf2.specs.Lists.{image, image-length, in-image, of-image, fewer, upt
 use Rattle.gf2.specs.Members.{In}
 use Rattle.gf2.specs.Parity.{odd-bit}
 use Rattle.gf2.specs.Places.{place-in, in-place}
-use Rattle.gf2.specs.Fill.{zeros}
+use Rattle.gf2.specs.Fill.{zeros, set-unused}
 use Rattle.gf2.specs.Truth.{clash}
 use Rattle.regular.specs.Runs.{Table}
 use Rattle.standard.specs.Basics.{Fits, Onto, fits-all, fits-keep, fits-fresh, onto-next}
@@ -24,7 +24,7 @@ use Rattle.standard.specs.Coordinates.{coord-lt}
 use Rattle.standard.specs.Form.{unitsBefore}
 use Rattle.standard.specs.FromTable.{table-space, diffs-count}
 use Rattle.standard.specs.Model.{diffs, coordOf, fitsAll}
-use Rattle.standard.specs.NextColumn.{set-column, set-next, set-unused, units-more}
+use Rattle.standard.specs.NextColumn.{set-column, set-next, units-more}
 use Rattle.table_forms.specs.declared.Walked.{Walked}
 use Rattle.table_forms.specs.Walk.{diffAt, Held, Latest, Alone, Read, Candidate, FitsAt, Fitting, Extended, Walk, Followed, Grown, Reached}
 

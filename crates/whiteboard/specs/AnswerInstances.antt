@@ -1,5 +1,5 @@
 -- Instances of what calls answer: each kind of answer accepted and refused, on the plans of ABC and ABCD.
--- In the order of the definitions: refusals, comparisons, smallest form, catalogue, several plans, book.
+-- In the order of the definitions: a value, a lent list, the better of two, comparisons, checks of a witness.
 use mathlib.Core.Path.{_≡_, refl, subst}
 use mathlib.Core.Logic.{inl}
 use mathlib.Core.List.{List, [], _∷_}
@@ -13,7 +13,7 @@ use Rattle.regular.specs.Words.{Word, Generated, letters}
 use Rattle.regular.specs.Columns.{planOf}
 use Rattle.regular.specs.Pattern.{Pattern, Resolution, LessAberration, ofLength}
 use Rattle.regular.specs.Refusals.{LentFault, either, wordsFaults, runsFaults, columnsFaults, Lowest, Gives, Fills, Chooses, HandsBack}
-use Rattle.regular.specs.RefusalLaws.{lowest-none, lowest-at, lowest-then, lowest-first, lowest-unique, lent-is}
+use Rattle.regular.specs.RefusalLaws.{lowest-then, lowest-first, lowest-unique, lent-fits, lent-short}
 use Rattle.regular.specs.Same.{moved}
 use Rattle.regular.specs.Comparisons.{Differ, Compares, Witness, Checks, Told, comparedNumber, checkedNumber}
 use Rattle.regular.specs.declared.Compared.{Compared}
@@ -25,13 +25,6 @@ use Rattle.whiteboard.specs.RefusalInstances.{refusal-7, refusal-8, refu
 use Rattle.whiteboard.specs.Samples.{abc, abcd, words-abc}
 use Rattle.whiteboard.specs.Tests.{below, agree-at}
 use Rattle.whiteboard.specs.Whiteboard.{wordsP, wordsQ, whiteboard}
-
--- a lent list that is long enough has no fault
-pub lent-none : (k : ℕ) (out : List ℕ) → k ≤ length out → Lowest (LentFault k out) 0
-lent-none k out h = lowest-none (LentFault k out) none
-  where
-    none : (i : ℕ) → LentFault k out i → ⊥
-    none i (LentFault.few l) = omega arith
 
 -- a number and a value: the resolution of ABC, and of AB, which is refused
 pub gives-resolution : Gives (wordsFaults 4 1 (7 ∷ [])) (Resolution 4 (Generated 4 1 (7 ∷ []))) 0 0 3
@@ -50,7 +43,7 @@ five = 9 ∷ 9 ∷ 9 ∷ 9 ∷ 9 ∷ []
 pub fills-pattern : Fills (either (columnsFaults 4 1 abc) (LentFault 4 five)) 4 (Pattern 4 (planOf 4 3 abc)) five (0 ∷ 0 ∷ 1 ∷ 0 ∷ 9 ∷ []) 0
 unfolding below
 fills-pattern = record {
-  number = lowest-then (columnsFaults 4 1 abc) (LentFault 4 five) 0 accepted-columns (lent-none 4 five (omega arith));
+  number = lowest-then (columnsFaults 4 1 abc) (LentFault 4 five) 0 accepted-columns (lent-fits 4 five (omega arith));
   refused = λ h. absurd (omega arith);
   result = λ e. pattern-first 4 (planOf 4 3 abc) (0 ∷ 0 ∷ 1 ∷ 0 ∷ []) (0 ∷ 0 ∷ 1 ∷ 0 ∷ 9 ∷ [])
       (agree-at (λ i. getD (0 ∷ 0 ∷ 1 ∷ 0 ∷ []) i 0) (λ i. getD (0 ∷ 0 ∷ 1 ∷ 0 ∷ 9 ∷ []) i 0) 4 refl) pattern-abc;
@@ -58,12 +51,9 @@ fills-pattern = record {
   size = refl;
 }
 
-pub lent-few : (k : ℕ) (out : List ℕ) → length out < k → Lowest (LentFault k out) 8
-lent-few k out h = lowest-at (LentFault k out) 8 (omega arith) (LentFault.few h) (λ i f. omega (arith, lent-is k out i f))
-
 pub fills-refused : Fills (either (columnsFaults 4 1 abc) (LentFault 4 (9 ∷ 9 ∷ []))) 4 (Pattern 4 (planOf 4 3 abc)) (9 ∷ 9 ∷ []) (9 ∷ 9 ∷ []) 8
 fills-refused = record {
-  number = lowest-then (columnsFaults 4 1 abc) (LentFault 4 (9 ∷ 9 ∷ [])) 8 accepted-columns (lent-few 4 (9 ∷ 9 ∷ []) (omega arith));
+  number = lowest-then (columnsFaults 4 1 abc) (LentFault 4 (9 ∷ 9 ∷ [])) 8 accepted-columns (lent-short 4 (9 ∷ 9 ∷ []) (omega arith));
   refused = λ h. refl;
   result = λ e. absurd (omega arith);
   past = λ e. refl;
@@ -143,7 +133,7 @@ pub compares-same : Compares tablesFaults 4 (runsOf runsABC) (runsOf disguised) 
 unfolding below
 compares-same =
     Compares.same 9
-    (lowest-then (either (runsFaults 4 1 runsABC) (runsFaults 4 1 disguised)) (LentFault 4 five) 0 accepted-tables (lent-none 4 five (omega arith)))
+    (lowest-then (either (runsFaults 4 1 runsABC) (runsFaults 4 1 disguised)) (LentFault 4 five) 0 accepted-tables (lent-fits 4 five (omega arith)))
     (carries-names 4 (runsOf runsABC) (runsOf disguised) (1 ∷ 2 ∷ 3 ∷ 0 ∷ []) names 9
     (agree-at (λ f. getD names f 0) (λ f. getD (1 ∷ 2 ∷ 3 ∷ 0 ∷ []) f 0) 4 refl) (witness-disguised .carries))
     (omega arith) refl refl
@@ -153,7 +143,7 @@ pub compares-different : Compares (either (either (columnsFaults 4 1 abc) (colum
 compares-different =
     Compares.different 3
     (lowest-then (either (columnsFaults 4 1 abc) (columnsFaults 4 1 abcd)) (LentFault 4 five) 0
-    (lowest-then (columnsFaults 4 1 abc) (columnsFaults 4 1 abcd) 0 accepted-columns accepted-abcd) (lent-none 4 five (omega arith)))
+    (lowest-then (columnsFaults 4 1 abc) (columnsFaults 4 1 abcd) 0 accepted-columns accepted-abcd) (lent-fits 4 five (omega arith)))
     different-abc-abcd differ-at refl
 
 pub compares-refused : Compares (either (either (columnsFaults 5 1 (1 ∷ 2 ∷ 3 ∷ 4 ∷ 8 ∷ [])) (columnsFaults 5 1 (1 ∷ 2 ∷ 4 ∷ 7 ∷ 8 ∷ []))) (LentFault 5 (0 ∷ 0 ∷ 0 ∷ 0 ∷ []))) 5

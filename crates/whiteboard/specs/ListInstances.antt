@@ -6,6 +6,7 @@ use Prim.Native.Nat.{ℕ, _*_, _≤_, _<_}
 use native.Mathlib.Omega.{arith}
 use native.Mathlib.Decide.{ℕ-discrete}
 use lib.ListN.{getD, drop, replicate}
+use Rattle.standard.specs.Runs.{plan-cols}
 use Rattle.regular.specs.Book.{Book, each, WritesPlans, WritesDesigns, CountFault}
 use Rattle.regular.specs.Catalogues.{ListsBytes, ListsDesigns, catalogueFaults}
 use Rattle.regular.specs.Columns.{planOf}
@@ -13,14 +14,14 @@ use Rattle.regular.specs.Designs.{Holds, blank}
 use Rattle.regular.specs.declared.Design.{Design}
 use Rattle.regular.specs.Pattern.{Pattern}
 use Rattle.regular.specs.PlanLists.{planAt, wantedRecordsFaults, wantedPlansFaults}
-use Rattle.regular.specs.RefusalLaws.{lowest-none, lowest-at, lowest-then}
+use Rattle.regular.specs.RefusalLaws.{lowest-none, lowest-at, lowest-then, lent-fits, lent-short}
 use Rattle.regular.specs.Refusals.{LentFault, ResolutionFault, RoomFault, WantedFault, either, sizeFaults, Lowest}
 use Rattle.regular.specs.Smallest.{Equal, Entry, Catalogue}
 use Rattle.words.specs.Switches.{pattern-agree}
 use Rattle.smallest_laws.specs.Dictionary.{equal-sym, equal-trans, equal-before, before-equal}
-use Rattle.smallest_laws.specs.Growth.{entry-equal, plan-equal}
+use Rattle.smallest_laws.specs.Growth.{entry-equal}
 use Rattle.catalogue_laws.specs.Demand.{catalogue-unique}
-use Rattle.whiteboard.specs.AnswerInstances.{lent-none, lent-few}
+use Rattle.whiteboard.specs.AnswerInstances.{}
 use Rattle.whiteboard.specs.PlanInstances.{recordABC, recordABCD, holds-abc, holds-abcd, size-4, pattern-abc, pattern-abcd}
 use Rattle.whiteboard.specs.RefusalInstances.{size-none, design-none}
 use Rattle.whiteboard.specs.ResultInstances.{plans, plans-none, each-plan}
@@ -191,7 +192,7 @@ pub writes : WritesPlans 4 1 3 plans (replicate 27 9) (book ++ (9 ∷ [])) 0 26
 writes = record {
   lowest = lowest-then (either (wantedPlansFaults 4 1 3 plans) (CountFault 2)) (LentFault 26 (replicate 27 9)) 0
       (lowest-then (wantedPlansFaults 4 1 3 plans) (CountFault 2) 0 (lowest-none (wantedPlansFaults 4 1 3 plans) plans-wanted) (lowest-none (CountFault 2) count-none))
-      (lent-none 26 (replicate 27 9) (omega arith));
+      (lent-fits 26 (replicate 27 9) (omega arith));
   refused = λ h. absurd (omega arith);
   whole = λ e. refl;
   book = λ e. book-4;
@@ -203,7 +204,7 @@ pub writes-refused : WritesPlans 4 1 3 plans (9 ∷ 9 ∷ []) (9 ∷ 9 ∷ []) 8
 writes-refused = record {
   lowest = lowest-then (either (wantedPlansFaults 4 1 3 plans) (CountFault 2)) (LentFault 26 (9 ∷ 9 ∷ [])) 8
       (lowest-then (wantedPlansFaults 4 1 3 plans) (CountFault 2) 0 (lowest-none (wantedPlansFaults 4 1 3 plans) plans-wanted) (lowest-none (CountFault 2) count-none))
-      (lent-few 26 (9 ∷ 9 ∷ []) (omega arith));
+      (lent-short 26 (9 ∷ 9 ∷ []) (omega arith));
   refused = λ h. (refl, refl);
   whole = λ e. absurd (omega arith);
   book = λ e. absurd (omega arith);
@@ -229,14 +230,14 @@ records-wanted k f =
 
 -- a plan's pattern is that of its record
 record-pattern : (c d p : List ℕ) → Equal 4 c d → Pattern 4 (planOf 4 3 c) p → Pattern 4 (planOf 4 3 d) p
-record-pattern c d p e h = pattern-agree 4 (planOf 4 3 c) (planOf 4 3 d) (plan-equal 4 3 c d e) p h
+record-pattern c d p e h = pattern-agree 4 (planOf 4 3 c) (planOf 4 3 d) (plan-cols 4 3 c d e) p h
 
 pub writes-designs : WritesDesigns 4 1 3 twoRecords (replicate 27 9) (book ++ (9 ∷ [])) 0 26
 unfolding each below
 writes-designs = record {
   lowest = lowest-then (either (wantedRecordsFaults 4 1 3 twoRecords) (CountFault 2)) (LentFault 26 (replicate 27 9)) 0
       (lowest-then (wantedRecordsFaults 4 1 3 twoRecords) (CountFault 2) 0 (lowest-none (wantedRecordsFaults 4 1 3 twoRecords) records-wanted) (lowest-none (CountFault 2) count-none))
-      (lent-none 26 (replicate 27 9) (omega arith));
+      (lent-fits 26 (replicate 27 9) (omega arith));
   refused = λ h. absurd (omega arith);
   whole = λ e. refl;
   book = λ e. record {

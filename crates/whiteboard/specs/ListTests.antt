@@ -15,7 +15,7 @@ use Rattle.gf2.specs.Places.{different-once}
 use Rattle.gf2.specs.Truth.{and-both, or-cases, or-left, or-right, clash}
 use Rattle.regular.specs.Comparisons.{Witness}
 use Rattle.regular.specs.Runs.{Table}
-use Rattle.regular.specs.Same.{moved, Renaming}
+use Rattle.regular.specs.Same.{Renaming, sent}
 use Rattle.whiteboard.specs.Tests.{every, passed, below, below-at}
 
 -- x is a member
@@ -74,9 +74,6 @@ named-renaming n p e =
     }
 
 -- a renaming and a mask that turn the runs t into the runs u
-abbrev pub sent : ℕ → List ℕ → ℕ → ℕ → ℕ
-sent n p mask x = bitXor (moved p n x) mask
-
 abbrev pub carried : ℕ → List ℕ → List ℕ → List ℕ → ℕ → List Bool
 carried n t u p mask =
     every (named n p) ∷ ltb mask (2 ^ n) ∷ all (λ x. among (sent n p mask x) u) t ∷ all (λ y. among y (image (sent n p mask) t)) u ∷ []

@@ -27,7 +27,7 @@ use Rattle.regular.specs.Smallest.{Entry}
 use Rattle.regular.specs.declared.Design.{Design}
 use Rattle.standard.specs.Total.{total-unit}
 use Rattle.words.specs.Short.{repeat-gives-short}
-use Rattle.words.specs.Switches.{agree-sym, no-short-agree}
+use Rattle.words.specs.Switches.{agree-sym, no-short-agree, agree-refl}
 use Rattle.whiteboard.specs.ListTests.{all, all-at}
 use Rattle.whiteboard.specs.PlanInstances.{size-4, runsABC, whole-4, table-abc, not-regular, no-short-abc, short-abc, below-abc, spans-abc, not-spans, recordABC, dependent-twice, standard-abc, holds-abc, disguised, table-disguised, no-short-disguised, repeat-ab}
 use Rattle.whiteboard.specs.Samples.{abc, abcd, fives, catalogue-4, catalogue-5, words-abcd}
@@ -282,7 +282,7 @@ fault-rank = ColumnsFault.rank not-spans
 
 pub fault-repeat : ColumnsFault 4 3 (1 ∷ 1 ∷ 2 ∷ 4 ∷ []) 7
 fault-repeat =
-    ColumnsFault.short (repeat-gives-short 4 3 (planOf 4 3 (1 ∷ 1 ∷ 2 ∷ 4 ∷ [])) (1 ∷ 1 ∷ 2 ∷ 4 ∷ []) (record { into = λ x p. p; onto = λ x p. p }) repeat-ab)
+    ColumnsFault.short (repeat-gives-short 4 3 (planOf 4 3 (1 ∷ 1 ∷ 2 ∷ 4 ∷ [])) (1 ∷ 1 ∷ 2 ∷ 4 ∷ []) (agree-refl (planOf 4 3 (1 ∷ 1 ∷ 2 ∷ 4 ∷ []))) repeat-ab)
 
 pub fault-runs : TableFault 4 3 (0 ∷ 5 ∷ []) 4
 fault-runs = TableFault.count (λ e. omega arith)

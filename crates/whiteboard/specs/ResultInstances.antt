@@ -1,4 +1,4 @@
--- Instances of what calls write: the smallest form with its witness and place, catalogues, several plans in one list, and a book; accepted and refused.
+-- Instances of what calls write: the smallest form with its witness and place, and several plans in one list; accepted and refused.
 use mathlib.Core.Path.{_≡_, refl, sym, ap, subst}
 use mathlib.Core.Logic.{⊎-elim, by-cases}
 use mathlib.Core.List.{List, [], _∷_, _++_}
@@ -7,12 +7,13 @@ use native.Mathlib.Omega.{arith}
 use native.Mathlib.Decide.{ℕ-discrete}
 use lib.Count.{ones, onesIn}
 use lib.ListN.{getD}
+use Rattle.standard.specs.Runs.{plan-cols}
 use Rattle.gf2.specs.Digits.{odd}
 use Rattle.gf2.specs.Lists.{listTo}
 use Rattle.regular.specs.Columns.{planOf, runOf}
 use Rattle.regular.specs.Designs.{blank}
 use Rattle.regular.specs.PlanLists.{planAt, HasPlan, BytesFault, recordsFaults, plansFaults}
-use Rattle.regular.specs.RefusalLaws.{lowest-none, none-lowest, lowest-then, lowest-first, lent-is}
+use Rattle.regular.specs.RefusalLaws.{lowest-none, none-lowest, lowest-then, lowest-first, lent-is, lent-fits, lent-short}
 use Rattle.regular.specs.Refusals.{LentFault, either, runsFaults, columnsFaults, Lowest}
 use Rattle.regular.specs.Runs.{runsOf}
 use Rattle.regular.specs.Same.{moved, Carries}
@@ -24,10 +25,10 @@ use Rattle.isomorphism_laws.specs.SamePlan.{carries-agree, carries-refl}
 use Rattle.isomorphism_laws.specs.Masks.{plan-within}
 use Rattle.isomorphism_laws.specs.Renamings.{kept}
 use Rattle.smallest_laws.specs.Beating.{smallest-moved}
-use Rattle.smallest_laws.specs.Growth.{plan-equal, smallest-equal}
+use Rattle.smallest_laws.specs.Growth.{smallest-equal}
 use Rattle.catalogue_laws.specs.Demand.{plan-runs}
-use Rattle.words.specs.Switches.{agree-sym}
-use Rattle.whiteboard.specs.AnswerInstances.{five, lent-none, lent-few}
+use Rattle.words.specs.Switches.{agree-sym, agree-refl}
+use Rattle.whiteboard.specs.AnswerInstances.{five}
 use Rattle.whiteboard.specs.ListTests.{among, all, distinct, carried-witness}
 use Rattle.whiteboard.specs.PlanInstances.{runsABC, disguised, recordABC, recordABCD, holds-abc, holds-abcd, size-4, table-disguised, smallest-abc}
 use Rattle.whiteboard.specs.RefusalInstances.{size-none, design-none, accepted-columns, accepted-abcd, accepted-disguised}
@@ -61,7 +62,7 @@ pub witness-back : Carries 4 (runsOf disguised) (planOf 4 3 (recordABC .columns)
 unfolding below among all distinct moved listTo runOf odd ones onesIn
 witness-back =
     carries-agree 4 (runsOf disguised) (runsOf disguised) (runsOf runsABC) (planOf 4 3 (recordABC .columns)) names 9
-    (record { into = λ x p. p; onto = λ x p. p })
+    (agree-refl (runsOf disguised))
     (agree-sym (planOf 4 3 (recordABC .columns)) (runsOf runsABC) (plan-runs 4 3 (recordABC .columns)))
     (carried-witness 4 disguised runsABC names 9 refl .carries)
 
@@ -89,7 +90,7 @@ pub reduces : Reduces (either (either (runsFaults 4 1 disguised) (recordsFaults 
     (record { number = 0; mask = 9; place = 2; design = recordABC })
 unfolding below moved
 reduces = record {
-  number = lowest-then (either (runsFaults 4 1 disguised) (recordsFaults 4 1 records)) (LentFault 4 five) 0 accepted-reduction (lent-none 4 five (omega arith));
+  number = lowest-then (either (runsFaults 4 1 disguised) (recordsFaults 4 1 records)) (LentFault 4 five) 0 accepted-reduction (lent-fits 4 five (omega arith));
   blank-design = λ h. absurd (omega arith);
   no-mask = λ h. absurd (omega arith);
   no-place = λ h. absurd (omega arith);
@@ -106,7 +107,7 @@ reduces = record {
 pub reduces-refused : Reduces (either (either (runsFaults 4 1 disguised) (recordsFaults 4 1 records)) (LentFault 4 (9 ∷ 9 ∷ []))) 4 3 (runsOf disguised)
     (λ mask. mask ≡ moved (9 ∷ 9 ∷ []) 4 3) records (9 ∷ 9 ∷ []) (9 ∷ 9 ∷ []) (record { number = 8; mask = 0; place = 0; design = blank })
 reduces-refused = record {
-  number = lowest-then (either (runsFaults 4 1 disguised) (recordsFaults 4 1 records)) (LentFault 4 (9 ∷ 9 ∷ [])) 8 accepted-reduction (lent-few 4 (9 ∷ 9 ∷ []) (omega arith));
+  number = lowest-then (either (runsFaults 4 1 disguised) (recordsFaults 4 1 records)) (LentFault 4 (9 ∷ 9 ∷ [])) 8 accepted-reduction (lent-short 4 (9 ∷ 9 ∷ []) (omega arith));
   blank-design = λ h. refl;
   no-mask = λ h. refl;
   no-place = λ h. refl;
@@ -158,7 +159,7 @@ own = 0 ∷ 1 ∷ 2 ∷ 3 ∷ 9 ∷ []
 own-carries : (c d : List ℕ) → Equal 4 c d → Carries 4 (planOf 4 3 c) (planOf 4 3 d) own 0
 unfolding listTo below
 own-carries c d e =
-    carries-agree 4 (planOf 4 3 c) (planOf 4 3 c) (planOf 4 3 c) (planOf 4 3 d) own 0 (record { into = λ x p. p; onto = λ x p. p }) (plan-equal 4 3 c d e)
+    carries-agree 4 (planOf 4 3 c) (planOf 4 3 c) (planOf 4 3 c) (planOf 4 3 d) own 0 (agree-refl (planOf 4 3 c)) (plan-cols 4 3 c d e)
     (carries-names 4 (planOf 4 3 c) (planOf 4 3 c) (kept 4) own 0 (agree-at (λ f. getD own f 0) (λ f. getD (kept 4) f 0) 4 refl) (carries-refl 4 (planOf 4 3 c) (plan-within 4 3 c)))
 
 equal-filled : Equal 4 abc filled
@@ -177,8 +178,8 @@ pub reduces-into : ReducesInto (intoFaults five) 4 3 (planOf 4 3 abc) (λ mask. 
 reduces-into = record {
   lowest = lowest-then (either (columnsFaults 4 1 abc) (either (plansFaults 4 1 plans) (LentFault 4 five))) (LentFault 4 five) 0
       (lowest-then (columnsFaults 4 1 abc) (either (plansFaults 4 1 plans) (LentFault 4 five)) 0 accepted-columns
-      (lowest-then (plansFaults 4 1 plans) (LentFault 4 five) 0 (lowest-none (plansFaults 4 1 plans) plans-none) (lent-none 4 five (omega arith))))
-      (lent-none 4 five (omega arith));
+      (lowest-then (plansFaults 4 1 plans) (LentFault 4 five) 0 (lowest-none (plansFaults 4 1 plans) plans-none) (lent-fits 4 five (omega arith))))
+      (lent-fits 4 five (omega arith));
   no-mask = λ h. absurd (omega arith);
   no-place = λ h. absurd (omega arith);
   untouched = λ h. absurd (omega arith);
@@ -194,7 +195,7 @@ pub reduces-into-refused : ReducesInto (intoFaults (9 ∷ 9 ∷ [])) 4 3 (planOf
 reduces-into-refused = record {
   lowest = lowest-first (either (columnsFaults 4 1 abc) (either (plansFaults 4 1 plans) (LentFault 4 (9 ∷ 9 ∷ [])))) (LentFault 4 five) 8 (omega arith)
       (lowest-then (columnsFaults 4 1 abc) (either (plansFaults 4 1 plans) (LentFault 4 (9 ∷ 9 ∷ []))) 8 accepted-columns
-      (lowest-then (plansFaults 4 1 plans) (LentFault 4 (9 ∷ 9 ∷ [])) 8 (lowest-none (plansFaults 4 1 plans) plans-none) (lent-few 4 (9 ∷ 9 ∷ []) (omega arith))))
+      (lowest-then (plansFaults 4 1 plans) (LentFault 4 (9 ∷ 9 ∷ [])) 8 (lowest-none (plansFaults 4 1 plans) plans-none) (lent-short 4 (9 ∷ 9 ∷ []) (omega arith))))
       (λ k f. omega (arith, lent-is 4 five k f));
   no-mask = λ h. refl;
   no-place = λ h. refl;
@@ -218,8 +219,8 @@ pub reduces-each : ReducesEach (either (either (plansFaults 4 1 plans) (LentFaul
 unfolding below
 reduces-each = record {
   lowest = lowest-then (either (plansFaults 4 1 plans) (LentFault 8 zeros8)) (LentFault 8 zeros8) 0
-      (lowest-then (plansFaults 4 1 plans) (LentFault 8 zeros8) 0 (lowest-none (plansFaults 4 1 plans) plans-none) (lent-none 8 zeros8 (omega arith)))
-      (lent-none 8 zeros8 (omega arith));
+      (lowest-then (plansFaults 4 1 plans) (LentFault 8 zeros8) 0 (lowest-none (plansFaults 4 1 plans) plans-none) (lent-fits 8 zeros8 (omega arith)))
+      (lent-fits 8 zeros8 (omega arith));
   untouched = λ h. absurd (omega arith);
   columns = λ e i h. each-plan (λ c. Smallest 4 3 (planOf 4 3 c) c) (catalogue-4 .sound 1 (omega arith) .smallest) smallest-abc i h;
   witness = λ e i h. carries-names 4 (planOf 4 3 (planAt 4 plans i)) (planOf 4 3 (planAt 4 plans i)) own (planAt 4 owns i) 0

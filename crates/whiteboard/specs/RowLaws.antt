@@ -35,7 +35,9 @@ runs-true : (n m : ℕ) (c t d : List ℕ) → Passed (tests (Row.runs n m c t d
 runs-true n m c t d e =
     let table : Listed n m c t = agree-at (λ j. getD t j 0) (runOf c n) (2 ^ m) (e .1 .0) in
     let levels : ℕ → ℕ = tally (λ j. letters (runOf c n j)) (2 ^ m) in
+    let sizes = e .1 .1 .1 in
     record {
+      sizes = (eqb-true (length c) n (sizes .0), eqb-true (length t) (2 ^ m) (sizes .1 .0), eqb-true (length d) (suc n) (sizes .1 .1 .0));
       table = table;
       distances = subst (λ (x : ℕ). Distances n (planOf n m c) x d) (sym (table 0 (pow-pos m) ∙ run-zero c n)) (record {
         counts = λ i h.
@@ -73,7 +75,9 @@ words-true n g ws c p r e =
     let a = wordColumns (pivotsAt ws n g) n in
     let h = is-given n g ws (e .0) in
     let q = is-pattern n g ws p h (e .1 .1 .0) in
+    let sizes = e .1 .1 .1 .1 in
     record {
+      sizes = (eqb-true (length c) n (sizes .0), eqb-true (length p) n (sizes .1 .0));
       columns = form-standard n (n - g) s c
           (standard-cols n (n - g) s a c (given-standard n g ws h) (agree-at (λ f. getD a f 0) (λ f. getD c f 0) n (e .1 .0)));
       pattern = q;
@@ -81,7 +85,7 @@ words-true n g ws c p r e =
     }
 
 -- different plans of one pattern
-different-true : (n g : ℕ) (vs ws p : List ℕ) (l v w : ℕ) → Passed (tests (Row.different n g vs ws p l v w)) → DifferentRow n (Generated n g vs) (Generated n g ws) l v w
+different-true : (n g : ℕ) (vs ws p : List ℕ) (l v w : ℕ) → Passed (tests (Row.different n g vs ws p l v w)) → DifferentRow n (Generated n g vs) (Generated n g ws) p l v w
 different-true n g vs ws p l v w e =
     let s = Generated n g vs in
     let t = Generated n g ws in
@@ -89,9 +93,12 @@ different-true n g vs ws p l v w e =
     let b = is-given n g ws (e .1 .0) in
     let first : Multiply n s l v = subst (Multiply n s l) (eqb-true (product (ofLetters g vs l)) v (e .1 .1 .1 .1 .0)) (given-multiply n g vs a l) in
     let second : Multiply n t l w = subst (Multiply n t l) (eqb-true (product (ofLetters g ws l)) w (e .1 .1 .1 .1 .1 .0)) (given-multiply n g ws b l) in
+    let one = is-pattern n g vs p a (e .1 .1 .0) in
+    let other = is-pattern n g ws p b (e .1 .1 .1 .0) in
     record {
       different = λ k. eqb-false (letters v) (letters w) (not-true (eqb (letters v) (letters w)) (e .1 .1 .1 .1 .1 .1 .0)) (multiply-same n s t l v w first second k);
-      length = Differ.nowhere p (is-pattern n g vs p a (e .1 .1 .0)) (is-pattern n g ws p b (e .1 .1 .1 .0));
+      patterns = (one, other);
+      length = Differ.nowhere p one other;
       first = first;
       second = second;
     }

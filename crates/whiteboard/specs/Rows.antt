@@ -2,6 +2,7 @@
 -- That a row which passes is true is proved in RowLaws. A further kind of example is a constructor here, with its meaning, its test and its law.
 use mathlib.Core.Bool.{Bool, not, true}
 use mathlib.Core.List.{List, [], _∷_}
+use mathlib.Core.Path.{_≡_}
 use Prim.Native.Nat.{ℕ, suc, _+_, _-_, _^_, _≤_}
 use lib.Dec.{eqb, leb, ltb}
 use lib.ListN.{getD, length}
@@ -31,18 +32,21 @@ pub data Row : Type 0 where
 
 -- the runs and distance counts of columns
 pub record RunsRow (n m : ℕ) (c t d : List ℕ) : Type 0 where
+  pub sizes : (length c ≡ n) × (length t ≡ 2 ^ m) × (length d ≡ suc n)
   pub table : Listed n m c t
   pub distances : Distances n (planOf n m c) (getD t 0 0) d
 
 -- the columns, pattern and resolution of a plan of g generators
 pub record WordsRow (n g : ℕ) (s : Runs) (c p : List ℕ) (r : ℕ) : Type 0 where
+  pub sizes : (length c ≡ n) × (length p ≡ n)
   pub columns : StandardColumns n (n - g) s c
   pub pattern : Pattern n s p
   pub resolution : Resolution n s r
 
--- different plans with length 0; the words of l letters multiply to v in the one and to w in the other
-pub record DifferentRow (n : ℕ) (s t : Runs) (l v w : ℕ) : Type 0 where
+-- different plans with the one pattern p, so length 0; the words of l letters multiply to v in the one and to w in the other
+pub record DifferentRow (n : ℕ) (s t : Runs) (p : List ℕ) (l v w : ℕ) : Type 0 where
   pub different : Same n s t → ⊥
+  pub patterns : Pattern n s p × Pattern n t p
   pub length : Differ n s t 0
   pub first : Multiply n s l v
   pub second : Multiply n t l w
@@ -55,7 +59,7 @@ CatalogueRow n g low high es = (r : ℕ) → low ≤ r → r ≤ high → Catalo
 abbrev pub Says : Row → Type 0
 Says (Row.runs n m c t d) = RunsRow n m c t d
 Says (Row.words n g ws c p r) = WordsRow n g (Generated n g ws) c p r
-Says (Row.different n g vs ws p l v w) = DifferentRow n (Generated n g vs) (Generated n g ws) l v w
+Says (Row.different n g vs ws p l v w) = DifferentRow n (Generated n g vs) (Generated n g ws) p l v w
 Says (Row.catalogue n g low high es) = CatalogueRow n g low high es
 
 -- tests of g words: they are independent, and of at most 16 factors
@@ -72,12 +76,17 @@ tests (Row.runs n m c t d) =
     onlyZero (runOf c n) (2 ^ m)
     ∷ agree (λ j. getD t j 0) (runOf c n) (2 ^ m)
     ∷ agree (λ i. getD d i 0) (tally (λ j. letters (runOf c n j)) (2 ^ m)) (suc n)
+    ∷ eqb (length c) n
+    ∷ eqb (length t) (2 ^ m)
+    ∷ eqb (length d) (suc n)
     ∷ []
 tests (Row.words n g ws c p r) =
     every (given n g ws)
     ∷ agree (λ f. getD (wordColumns (pivotsAt ws n g) n) f 0) (λ f. getD c f 0) n
     ∷ counts n g ws p
     ∷ eqb (firstLength n p) r
+    ∷ eqb (length c) n
+    ∷ eqb (length p) n
     ∷ []
 tests (Row.different n g vs ws p l v w) =
     every (given n g vs)

@@ -4,14 +4,9 @@ use mathlib.Core.List.{List}
 use Prim.Native.Nat.{ℕ, _^_, _≤_, _<_}
 use native.Mathlib.Omega.{arith}
 use lib.Pow.{pow-mono}
-use Rattle.regular.specs.Comparisons.{Differ, Compares, comparedNumber}
+use Rattle.regular.specs.Comparisons.{Compares, comparedNumber}
 use Rattle.regular.specs.Runs.{Runs}
 use Rattle.regular.specs.declared.Compared.{Compared}
-
--- a length where patterns differ is at most n
-differ-most : (n : ℕ) (s t : Runs) (l : ℕ) → Differ n s t l → l ≤ n
-differ-most n s t l (Differ.nowhere p a b) = omega arith
-differ-most n s t l (Differ.at k p q a b h m e ne) = m
 
 mask-most : (n : ℕ) → n ≤ 16 → (mask : ℕ) → mask < 2 ^ n → mask < 65536
 mask-most n h mask l = omega (arith, pow-mono {i = n} {j = 16} h)

@@ -12,13 +12,14 @@ use Rattle.regular.specs.Columns.{planOf, runOf}
 use Rattle.regular.specs.Runs.{Runs, runsOf, switched, Table}
 use Rattle.regular.specs.Same.{moved, Renaming, Carries, Same}
 use Rattle.regular.specs.Words.{Word}
-use Rattle.standard.specs.Form.{StandardForm, StandardFor}
+use Rattle.standard.specs.Form.{StandardForm}
 use Rattle.standard.specs.FromTable.{table-standard}
 use Rattle.standard.specs.Model.{standard}
 use Rattle.standard.specs.Runs.{run-zero}
 use Rattle.words.specs.ReducedWords.{reduced-words}
 use Rattle.words.specs.Switches.{agree-sym, word-agree, word-switched, word-switched-back}
 use Rattle.words.specs.WordList.{wordsTo}
+use Rattle.words.specs.Standards.{standard-own}
 use Rattle.isomorphism_laws.specs.KeptWords.{word-moved, word-from}
 use Rattle.isomorphism_laws.specs.Masks.{plan-within, table-witness}
 use Rattle.isomorphism_laws.specs.Renamings.{moved-lt, odd-moved, unmoved, unmoved-lt, moved-unmoved}
@@ -42,13 +43,10 @@ even-run : (n m : ℕ) (c : List ℕ) (x w : ℕ) → planOf n m c x → Word n 
 even-run n m c x w p h =
     h .constant x (runOf c n 0) p (0, (pow-pos m, refl)) ∙ ap (λ (r : ℕ). odd r w) (run-zero c n) ∙ odd-zero-l w
 
-own : (n m : ℕ) (c : List ℕ) → StandardForm n m c → StandardFor n m (planOf n m c) c
-own n m c f = record { form = f; plan = record { into = λ x p. p; onto = λ x p. p } }
-
 -- .. and a run that is even in every word is one of the plan
 run-of-even : (n m : ℕ) (c : List ℕ) → StandardForm n m c → (x : ℕ) → x < 2 ^ n → ((w : ℕ) → Word n (planOf n m c) w → odd x w ≡ 0) → planOf n m c x
 run-of-even n m c f x l h =
-    let r = reduced-words n m (planOf n m c) c (own n m c f) in
+    let r = reduced-words n m (planOf n m c) c (standard-own n m c f) in
     r .plan .onto x (record { within = l; even = λ i q. h (getD (wordsTo c n) i 0) (r .word i q) })
 
 module _ (n m : ℕ) (a d p : List ℕ) (sa : StandardForm n m a) (sd : StandardForm n m d) (r : Renames n (planOf n m a) (planOf n m d) p) where
@@ -61,7 +59,7 @@ module _ (n m : ℕ) (a d p : List ℕ) (sa : StandardForm n m a) (sd : Standard
   run-unmoved : (y : ℕ) → planOf n m d y → planOf n m a (unmoved p n y)
   run-unmoved y q =
       let e = moved-unmoved n p (r .renaming) y (plan-within n m d y q) in
-      run-of-even n m a sa (unmoved p n y) (unmoved-lt n p (r .renaming) y)
+      run-of-even n m a sa (unmoved p n y) (unmoved-lt n p y)
       (λ w h. sym (odd-moved n p (r .renaming) (unmoved p n y) w (h .within)) ∙ ap (λ (z : ℕ). odd z (moved p n w)) e ∙ even-run n m d y (moved p n w) q (r .into w h))
 
   columns-carried : Carries n (planOf n m a) (planOf n m d) p 0

@@ -33,12 +33,12 @@ used-none n p = record {
   only = λ e h. absurd (omega (arith, bit-none e));
 }
 
+-- the next name is out of range
+pub past-not : (n : ℕ) (p : List ℕ) (f name : ℕ) → name ≡ getD p f 0 → f < n → n ≤ name → Named n p → ⊥
+past-not n p f name is h l w = omega (arith, is, w .renaming .within f h)
+
 -- the next name
 module _ (n : ℕ) (p : List ℕ) (f seen name : ℕ) (s : Used n p f seen) (is : name ≡ getD p f 0) where
-  -- it is out of range
-  pub past-not : f < n → n ≤ name → Named n p → ⊥
-  past-not h l w = omega (arith, is, w .renaming .within f h)
-
   -- it is seen already
   pub twice-not : f < n → bit name seen ≡ 1 → Named n p → ⊥
   twice-not h b w =

@@ -1,12 +1,10 @@
 -- What a turn of each loop does, and what the elimination answers.
 use mathlib.Core.Path.{_≡_, refl, sym, ap, ap₂, _∙_, subst}
 use mathlib.Core.Bool.{Bool, true, false, true≢false, false≢true}
-use mathlib.Core.Logic.{by-cases}
 use mathlib.Core.List.{List}
 use Prim.Native.Nat.{ℕ, zero, suc, _+_, _-_, _*_, _^_, _<_, _≤_}
 use native.Mathlib.Numerals.{add-one}
 use native.Mathlib.Omega.{arith}
-use native.Mathlib.Decide.{ℕ-discrete}
 use borrow.Author.Tests.{eq-eqb, ne-eqb}
 use lib.Bits.{bitXor}
 use lib.Dec.{eqb}
@@ -21,10 +19,6 @@ use Rattle.words.specs.FromWords.{wc-at, pivots-words}
 use Rattle.words.specs.Model.{reduced, lastOf, freeBefore, wordColumns, Pivots}
 use Rattle.words.specs.Pivots.{last-is, reduced-lt, pivots-more, empty-word}
 use Rattle.words.specs.Standards.{standard-cols}
-
--- the bound, word by word
-pub below-turn : (ws : List ℕ) (end i : ℕ) → getD ws i 0 < end → ((k : ℕ) → k < i → getD ws k 0 < end) → (k : ℕ) → k < i + 1 → getD ws k 0 < end
-below-turn ws end i h b k l = by-cases (ℕ-discrete k i) (λ e. rw e h) (λ ne. b k (omega arith))
 
 -- the reduction, letter by letter
 pub reduce-turn : (piv : List ℕ) (f v : ℕ) → 0 < f → reduced piv f v ≡ reduced piv (f - 1) (bitXor v (getD piv (f - 1) 0 * bit (f - 1) v))

@@ -68,7 +68,7 @@ module _ (n m : ℕ) (s : Runs) (a : List ℕ) (st : StandardFor n m s a) where
   word-at i h = L .word i (omega (arith, size))
 
   last-at : (i : ℕ) → i < g → Last (letter i) (getD ws i 0)
-  last-at i h = ap (λ (x : ℕ). x / 2 ^ letter i) (word-at i h) ∙ word-last n m a (st .form) (letter i)
+  last-at i h = ap (λ (x : ℕ). x / 2 ^ letter i) (word-at i h) ∙ word-last a (letter i)
 
   last-of : (i f : ℕ) → i < g → Last f (getD ws i 0) → f ≡ letter i
   last-of i f h p = last-unique f (letter i) (getD ws i 0) p (last-at i h)

@@ -1,11 +1,10 @@
 -- Columns in standard form are the standard columns of document 01, and the other way round; so its definition fixes the columns.
-use mathlib.Core.Path.{_≡_, refl, sym, ap, ap₂, _∙_, subst}
+use mathlib.Core.Path.{_≡_, sym, ap, ap₂, _∙_, subst}
 use mathlib.Core.Logic.{inl, inr, ⊎-elim, by-cases}
 use mathlib.Core.List.{List, [], _∷_}
 use Prim.Native.Nat.{ℕ, zero, suc, _*_, _^_, _≤_, _<_}
 use native.Mathlib.Omega.{arith}
 use native.Mathlib.Decide.{ℕ-discrete}
-use borrow.Author.Tests.{ne-eqb}
 use lib.Bits.{bitXor}
 use lib.ListN.{getD}
 use Rattle.gf2.specs.Counts.{Count, count-unique, count-same}
@@ -15,34 +14,23 @@ use Rattle.regular.specs.Runs.{Runs}
 use Rattle.regular.specs.Words.{total}
 use Rattle.standard.specs.Form.{unitsBefore, StandardForm, StandardFor}
 use Rattle.standard.specs.Plans.{word-cancels}
-use Rattle.standard.specs.Runs.{run-cols}
+use Rattle.standard.specs.Runs.{plan-cols}
 use Rattle.standard.specs.Total.{total-cols, total-more, total-unit, total-xor}
-use Rattle.standard.specs.Units.{spread, spread-lt, unitsAt, unitary, based-lt, units-next, standard-below, units-same}
-use Rattle.words.specs.Switches.{agree-sym, agree-trans, word-agree}
+use Rattle.standard.specs.Units.{spread, spread-lt, unitsAt, unitary, based-lt, units-next, standard-below, units-same, units-zero, units-stay}
+use Rattle.words.specs.Switches.{agree-sym, agree-trans, word-agree, agree-refl}
 use Rattle.words.specs.ToWords.{wordAt, basic-last-of-none, other-last-of-one}
-
--- the column of e is the next unit
-abbrev Unit-at : List ℕ → ℕ → Type 0
-Unit-at a e = getD a e 0 ≡ 2 ^ unitsBefore a e
-
-units-stay : (a : List ℕ) (f : ℕ) → (Unit-at a f → ⊥) → unitsBefore a (suc f) ≡ unitsBefore a f
-unfolding unitsBefore
-units-stay a f ne = rw (ne-eqb (getD a f 0) (2 ^ unitsBefore a f) ne) (omega arith)
-
-units-start : (a : List ℕ) → 0 ≡ unitsBefore a 0
-unfolding unitsBefore
-units-start a = refl
+use Rattle.words.specs.WordList.{isUnit}
 
 -- the units among the first f columns, counted
-units-count : (a : List ℕ) (f : ℕ) → Count (λ e. (e < f) × Unit-at a e) (unitsBefore a f)
-units-count a zero = record { members = []; different = tt; each = λ x m. absurd m; all = λ x p. absurd (omega (arith, p .0)); number = units-start a }
+units-count : (a : List ℕ) (f : ℕ) → Count (λ e. (e < f) × isUnit a e) (unitsBefore a f)
+units-count a zero = record { members = []; different = tt; each = λ x m. absurd m; all = λ x p. absurd (omega (arith, p .0)); number = sym (units-zero a) }
 units-count a (suc f) =
     let c = units-count a f in
     by-cases (ℕ-discrete (getD a f 0) (2 ^ unitsBefore a f))
     (λ u. record {
       members = f ∷ c .members;
       different = ((λ m. omega (arith, c .each f m .0)), c .different);
-      each = λ x m. ⊎-elim (λ e. (omega arith, subst (Unit-at a) (sym e) u)) (λ i. let r = c .each x i in (omega (arith, r .0), r .1)) m;
+      each = λ x m. ⊎-elim (λ e. (omega arith, subst (isUnit a) (sym e) u)) (λ i. let r = c .each x i in (omega (arith, r .0), r .1)) m;
       all = λ x p. by-cases (ℕ-discrete x f) (λ e. inl e) (λ ne. inr (c .all x (omega (arith, p .0), p .1)));
       number = omega (arith, c .number, units-next a f u);
     })
@@ -50,16 +38,16 @@ units-count a (suc f) =
       members = c .members;
       different = c .different;
       each = λ x m. let r = c .each x m in (omega (arith, r .0), r .1);
-      all = λ x p. by-cases (ℕ-discrete x f) (λ e. absurd (u (subst (Unit-at a) e (p .1)))) (λ ne. c .all x (omega (arith, p .0), p .1));
+      all = λ x p. by-cases (ℕ-discrete x f) (λ e. absurd (u (subst (isUnit a) e (p .1)))) (λ ne. c .all x (omega (arith, p .0), p .1));
       number = c .number ∙ sym (units-stay a f u);
     })
 
 -- columns in standard form: the basic factors are those of the units
 module _ (n m : ℕ) (s : Runs) (a : List ℕ) (st : StandardFor n m s a) where
-  unit-basic : (f : ℕ) → f < n → Unit-at a f → Basic n s f
+  unit-basic : (f : ℕ) → f < n → isUnit a f → Basic n s f
   unit-basic f h u w word last = basic-last-of-none n m a (st .form) f h u w (word-agree n s (planOf n m a) (st .plan) w word) last
 
-  basic-unit : (f : ℕ) → f < n → Basic n s f → Unit-at a f
+  basic-unit : (f : ℕ) → f < n → Basic n s f → isUnit a f
   basic-unit f h b =
       by-cases (ℕ-discrete (getD a f 0) (2 ^ unitsBefore a f)) (λ u. u)
       (λ ne.
@@ -69,7 +57,7 @@ module _ (n m : ℕ) (s : Runs) (a : List ℕ) (st : StandardFor n m s a) where
   -- as many basic factors before f as units
   basics-count : (f : ℕ) → f ≤ n → Count (λ e. (e < f) × Basic n s e) (unitsBefore a f)
   basics-count f h =
-      count-same (λ e. (e < f) × Unit-at a e) (λ e. (e < f) × Basic n s e) (unitsBefore a f)
+      count-same (λ e. (e < f) × isUnit a e) (λ e. (e < f) × Basic n s e) (unitsBefore a f)
       (λ e p. (p .0, unit-basic e (omega (arith, p .0)) (p .1)))
       (λ e p. (p .0, basic-unit e (omega (arith, p .0)) (p .1)))
       (units-count a f)
@@ -125,13 +113,14 @@ form-cols n m a c s e =
       units = sym (units-same a c n e) ∙ s .units;
     }
 
+-- columns in standard form are the standard columns of their plan
+pub standard-own : (n m : ℕ) (a : List ℕ) → StandardForm n m a → StandardFor n m (planOf n m a) a
+standard-own n m a s = record { form = s; plan = agree-refl (planOf n m a) }
+
 -- equal columns are as good
 pub standard-cols : (n m : ℕ) (s : Runs) (a c : List ℕ) → StandardFor n m s a → ((f : ℕ) → f < n → getD a f 0 ≡ getD c f 0) → StandardFor n m s c
 standard-cols n m s a c st e =
     record {
       form = form-cols n m a c (st .form) e;
-      plan = record {
-        into = λ x p. let q = st .plan .into x p in (q .0, (q .1 .0, q .1 .1 ∙ run-cols a c n (q .0) e));
-        onto = λ x q. st .plan .onto x (q .0, (q .1 .0, q .1 .1 ∙ sym (run-cols a c n (q .0) e)));
-      };
+      plan = agree-trans s (planOf n m a) (planOf n m c) (st .plan) (plan-cols n m a c e);
     }

@@ -39,6 +39,9 @@ words-no-short : (n r : ℕ) (s t : Runs) → WordsOf n t s → NoShort n r s �
 words-no-short n r s t onto h w p = h w (onto w p)
 
 -- the same runs
+pub agree-refl : (s : Runs) → Agree s s
+agree-refl s = record { into = λ x p. p; onto = λ x p. p }
+
 pub agree-sym : (s t : Runs) → Agree s t → Agree t s
 agree-sym s t a = record { into = a .onto; onto = a .into }
 

@@ -38,18 +38,19 @@ wordAt a f = bitXor (1 * 2 ^ f) (spread (unitsAt a f) (getD a f 0))
 abbrev pub wordsOf : List ℕ → ℕ → List ℕ
 wordsOf a n = listTo (λ f. pick (eqb (getD a f 0) (2 ^ unitsBefore a f)) 0 (wordAt a f)) n
 
+-- the word of f has the last letter f
+rest-lt : (a : List ℕ) (f : ℕ) → spread (unitsAt a f) (getD a f 0) < 2 ^ f
+rest-lt a f = spread-lt (unitsAt a f) f (based-lt a f (unitsAt a f) (unitary a f .based)) (getD a f 0)
+
+word-sum : (a : List ℕ) (f : ℕ) → wordAt a f ≡ 1 * 2 ^ f + spread (unitsAt a f) (getD a f 0)
+word-sum a f = xor-shifted 1 f (spread (unitsAt a f) (getD a f 0)) (rest-lt a f)
+
+pub word-last : (a : List ℕ) (f : ℕ) → wordAt a f / 2 ^ f ≡ 1
+word-last a f = ap (λ (x : ℕ). x / 2 ^ f) (word-sum a f) ∙ digits-div 1 {m = 2 ^ f} {r = spread (unitsAt a f) (getD a f 0)} (rest-lt a f)
+
 module _ (n m : ℕ) (a : List ℕ) (s : StandardForm n m a) where
   abbrev piv : List ℕ
   piv = wordsOf a n
-
-  rest-lt : (f : ℕ) → spread (unitsAt a f) (getD a f 0) < 2 ^ f
-  rest-lt f = spread-lt (unitsAt a f) f (based-lt a f (unitsAt a f) (unitary a f .based)) (getD a f 0)
-
-  word-sum : (f : ℕ) → wordAt a f ≡ 1 * 2 ^ f + spread (unitsAt a f) (getD a f 0)
-  word-sum f = xor-shifted 1 f (spread (unitsAt a f) (getD a f 0)) (rest-lt f)
-
-  pub word-last : (f : ℕ) → wordAt a f / 2 ^ f ≡ 1
-  word-last f = ap (λ (x : ℕ). x / 2 ^ f) (word-sum f) ∙ digits-div 1 {m = 2 ^ f} {r = spread (unitsAt a f) (getD a f 0)} (rest-lt f)
 
   piv-basic : (f : ℕ) → f < n → getD a f 0 ≡ 2 ^ unitsBefore a f → getD piv f 0 ≡ 0
   piv-basic f h e =
@@ -62,13 +63,13 @@ module _ (n m : ℕ) (a : List ℕ) (s : StandardForm n m a) where
       ∙ ap (λ (t : Bool). pick t 0 (wordAt a f)) (ne-eqb (getD a f 0) (2 ^ unitsBefore a f) e)
 
   word-some : (f : ℕ) → wordAt a f ≡ 0 → ⊥
-  word-some f e = omega (arith, word-sum f, pow-pos f)
+  word-some f e = omega (arith, word-sum a f, pow-pos f)
 
   words-lasts : Lasts n piv
   words-lasts f h =
       by-cases (ℕ-discrete (getD a f 0) (2 ^ unitsBefore a f))
       (λ e. inl (piv-basic f h e))
-      (λ ne. inr (ap (λ (x : ℕ). x / 2 ^ f) (piv-word f h ne) ∙ word-last f))
+      (λ ne. inr (ap (λ (x : ℕ). x / 2 ^ f) (piv-word f h ne) ∙ word-last a f))
 
   free-units : (f : ℕ) → f ≤ n → freeBefore piv f ≡ unitsBefore a f
   unfolding freeBefore unitsBefore
@@ -82,7 +83,7 @@ module _ (n m : ℕ) (a : List ℕ) (s : StandardForm n m a) where
   word-total : (f : ℕ) → getD a f 0 < 2 ^ unitsBefore a f → total a f (wordAt a f) ≡ getD a f 0
   word-total f h =
       let u = unitary a f in
-      ap (total a f) (word-sum f) ∙ total-low a f 1 (spread (unitsAt a f) (getD a f 0)) (rest-lt f)
+      ap (total a f) (word-sum a f) ∙ total-low a f 1 (spread (unitsAt a f) (getD a f 0)) (rest-lt a f)
       ∙ total-spread a f (unitsAt a f) (getD a f 0) (u .based)
       ∙ mod-eq-of-lt (subst (λ (k : ℕ). getD a f 0 < 2 ^ k) (sym (u .count)) h)
 
@@ -140,14 +141,14 @@ module _ (n m : ℕ) (a : List ℕ) (s : StandardForm n m a) (f : ℕ) (h : f < 
 
   pub other-last-of-one : (getD a f 0 ≡ 2 ^ unitsBefore a f → ⊥) → Word n (planOf n m a) (wordAt a f) × (wordAt a f / 2 ^ f ≡ 1)
   other-last-of-one ne =
-      let q = word-last n m a s f in
+      let q = word-last a f in
       let l = last-lt f (wordAt a f) q in
       let r : total a f (wordAt a f % 2 ^ f) ≡ getD a f 0 =
       sym (total-low a f 1 (wordAt a f % 2 ^ f) (mod-lt (wordAt a f) (pow-pos f)))
       ∙ ap (total a f) (ap (λ (d : ℕ). d * 2 ^ f + wordAt a f % 2 ^ f) (sym q) ∙ split (wordAt a f) f)
       ∙ word-total n m a s f (omega (arith, s .next f h)) in (
         cancels-word n m a (wordAt a f)
-            (omega (arith, word-sum n m a s f, pow-pos f))
+            (omega (arith, word-sum a f, pow-pos f))
             (omega (arith, l, pow-mono {i = suc f} {j = n} h))
             (last-total (wordAt a f) q ∙ ap (λ (y : ℕ). bitXor y (getD a f 0)) r ∙ xor-self (getD a f 0)),
         q,

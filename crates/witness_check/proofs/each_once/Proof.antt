@@ -29,7 +29,7 @@ wide-byte-requires c κs = search needs
 returns-2 : tie.Need-returns-2 Inv-loop μ-loop
 returns-2 c =
     let at = c .before .before .before .before in
-    tells-no _ _ (past-not _ _ (at .loop .f) (at .loop .seen) (c .before .wide-byte .result) (at .loop .inv .1) (c .before .wide-byte .ensures .0) (omega arith) (omega arith))
+    tells-no _ _ (past-not _ _ (at .loop .f) (c .before .wide-byte .result) (c .before .wide-byte .ensures .0) (omega arith) (omega arith))
 
 level-requires : tie.Need-level-requires Inv-loop μ-loop
 level-requires c κs = search needs

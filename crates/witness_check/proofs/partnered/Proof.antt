@@ -6,13 +6,14 @@ use Rattle.witness_check.proofs.partnered.Tie as tie
 use Prim.Native.Nat.{_≤_, ℕ, _-_, _<_}
 use lib.ListN.{length, getD}
 use native.Mathlib.Omega.{arith}
-use Rattle.witness_check.specs.Partners.{partner-each, partner-none, partner-at, reached}
+use Rattle.witness_check.specs.Partners.{partner-each, partner-none, partner-at}
 use Rattle.gf2.specs.Answers.{tells-no}
 use borrow.Author.Count.{below-more}
 use Rattle.gf2.specs.Members.{In}
 use mathlib.Core.Path.{refl, _≡_, _∙_}
 use Rattle.isomorphism_laws.specs.Moving.{moved-names, renaming-names}
 use mathlib.Core.Bool.{true}
+use Rattle.regular.specs.Same.{sent}
 
 abbrev Inv-loop : tie.InvT-loop
 Inv-loop n first second names mask all answer₀ i x y j₀ answer j = (j ≤ length second) × (((k : ℕ) → k < j → getD second k 0 ≡ y → ⊥) × (answer ≡ true))
@@ -21,7 +22,7 @@ abbrev μ-loop : tie.MeasureT-loop
 μ-loop n first second names mask all answer₀ i x y j₀ answer j = length second - j
 
 abbrev Inv-runs : tie.InvT-runs
-Inv-runs n first second names mask all answer₀ i₀ answer i = (i ≤ length first) × (((k : ℕ) → k < i → In (reached n names mask (getD first k 0)) second) × (answer ≡ true))
+Inv-runs n first second names mask all answer₀ i₀ answer i = (i ≤ length first) × (((k : ℕ) → k < i → In (sent n names mask (getD first k 0)) second) × (answer ≡ true))
 
 abbrev μ-runs : tie.MeasureT-runs
 μ-runs n first second names mask all answer₀ i₀ answer i = length first - i

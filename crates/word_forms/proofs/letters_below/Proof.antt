@@ -4,8 +4,8 @@ use mathlib.Core.Bool.{true≢false, false≢true}
 use Prim.Native.Nat.{ℕ, _-_, _<_, _≤_}
 use native.Mathlib.Omega.{arith}
 use borrow.Author.Needs.{needs}
+use borrow.Author.Count.{below-more}
 use lib.ListN.{length, getD}
-use Rattle.word_forms.specs.Turns.{below-turn}
 use Rattle.word_forms.proofs.letters_below.Statement.{statement}
 use Rattle.word_forms.proofs.letters_below.Tie as tie
 
@@ -42,7 +42,7 @@ loop-again : tie.Need-loop-again Inv-loop μ-loop
 loop-again c =
     let at = c .before .before .before .before in
     let s = at .before .before .args in
-    (omega arith, below-turn (s .ws .now) (s .end) (at .loop .i) (omega arith) (at .loop .inv .1))
+    (omega arith, below-more (λ (k : ℕ). getD (s .ws .now) k 0 < s .end) (at .loop .i) (at .loop .inv .1) (omega arith))
 
 returns-2 : tie.Need-returns-2 Inv-loop μ-loop
 returns-2 c =
