@@ -98,9 +98,6 @@ fn every_definition_has_a_line_of_the_readers_pass_and_every_instance_is_proved(
     assert!(named(3).len() > 100, "only {} instances on the page", named(3).len());
 }
 
-/// Types in the code that still have the name of a definition.
-const STILL_NAMED: [&str; 3] = ["Size in plans", "Listed in catalogue", "Better in canonical"];
-
 #[test]
 fn no_definition_or_type_of_another_crate_has_the_name_of_a_definition_of_the_paper() {
     let own = definitions("regular");
@@ -111,7 +108,6 @@ fn no_definition_or_type_of_another_crate_has_the_name_of_a_definition_of_the_pa
         seen += others.len();
         twice.extend(others.intersection(&own).map(|name| format!("{name} in {krate}")));
     }
-    twice.retain(|name| !STILL_NAMED.contains(&name.as_str()));
     assert!(twice.is_empty(), "defined anew: {twice:?}");
     assert!(own.len() > 100 && seen > 200, "only {} definitions of the paper and {seen} others", own.len());
 }
