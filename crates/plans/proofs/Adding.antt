@@ -5,18 +5,16 @@ use mathlib.Core.List.{List, [], _∷_, _++_, append-assoc, append-nil}
 use Prim.Native.Nat.{ℕ, zero, suc, _+_, _-_, _*_, _/_, _%_, _^_, _≤_, _<_}
 use native.Mathlib.Omega.{arith}
 use native.Mathlib.Nat.{pow-succ', add-zero, add-suc, le-of-eq}
-use native.Mathlib.Decide.{decLe}
+use native.Mathlib.Decide.{decLe, decLt}
 use mathlib.Core.Logic.{by-cases}
 use native.Mathlib.Numerals.{add-one}
 use borrow.Author.Tests.{lt-ltb, le-ltb}
-use Rattle.io.specs.Counts.{Counts}
 use Rattle.io.specs.Digits.{digits, glyph, Fewest}
 use lib.ListN.{length, getD, take, drop, set, length-set, length-append}
 use lib.Seq.{take-suc, take-suc-set, take-length, drop-drop, drop-set-lt}
 use Rattle.regular.specs.Book.{each}
 use Rattle.regular.specs.Pattern.{ofLength}
-use Rattle.plans.proofs.Counting.{counts}
-use Rattle.plans.specs.Text.{Adds, digitsUpTo, next, columnsText, countsText}
+use Rattle.plans.specs.Text.{Adds, digitsUpTo, decimal, next, columnsText, countsText}
 
 -- nothing was added yet
 pub adds-none : (xs : List ℕ) (at : ℕ) → Adds xs xs at [] at
@@ -116,9 +114,22 @@ few-digits x k h f =
     let o : 10 ^ (k - 1) ≤ x = f .2 (omega arith) in
     absurd (omega (arith, h, m, o)))
 
--- the first line of a list
-pub line-of : {xs ys : List ℕ} {t : List ℕ} {k : ℕ} → Adds xs ys 0 t k → k ≤ length xs → Counts k ys × Adds xs ys 0 t k
-line-of {xs} {ys} {t} {k} a h = (counts k ys (omega (arith, a .size, h)), a)
+-- a number below 10 ^ k has at most k digits
+short-digits : (j k x : ℕ) → x < 10 ^ suc k → length (digitsUpTo j x) ≤ suc k
+unfolding digitsUpTo
+short-digits zero k x h = omega arith
+short-digits (suc j) zero x h = subst (λ (b : Bool). length (cond b ((48 + x) ∷ []) (digitsUpTo j (x / 10) ++ ((48 + x % 10) ∷ []))) ≤ 1) (sym (lt-ltb x 10 h)) (omega arith)
+short-digits (suc j) (suc k) x h =
+    by-cases (decLt x 10)
+    (λ l. subst (λ (b : Bool). length (cond b ((48 + x) ∷ []) (digitsUpTo j (x / 10) ++ ((48 + x % 10) ∷ []))) ≤ suc (suc k)) (sym (lt-ltb x 10 l)) (omega arith))
+    (λ l. subst (λ (b : Bool). length (cond b ((48 + x) ∷ []) (digitsUpTo j (x / 10) ++ ((48 + x % 10) ∷ []))) ≤ suc (suc k)) (sym (le-ltb x 10 (omega (arith, l))))
+    (omega (arith, short-digits j k (x / 10) (omega (arith, h, ten-more (suc k))), length-append (digitsUpTo j (x / 10)) ((48 + x % 10) ∷ []))))
+
+pub decimal-short : (k x : ℕ) → x < 10 ^ suc k → length (decimal x) ≤ suc k
+decimal-short k x h = short-digits 20 k x h
+
+pub next-short : (k x : ℕ) → x < 10 ^ suc k → length (next x) ≤ suc (suc k)
+next-short k x h = omega (arith, short-digits 20 k x h, length-append (32 ∷ []) (decimal x))
 
 -- numbers, each after a space: none yet, one column more, the count of one length more
 pub columns-none : (xs : List ℕ) (at : ℕ) (columns : List ℕ) → Adds xs xs at (columnsText 0 columns) at

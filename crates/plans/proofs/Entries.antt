@@ -52,7 +52,7 @@ all-listable n g r d zs number count l e =
     (omega (arith, l .catalogues .fits e, length-replicate 1024 d), λ i lt. record { size = bounds low .size; r = r; low = bounds low .low; holds = l .records i lt })
 
 -- within a list, what stands past it plays no part
-getD-within : (xs : List Design) (i : ℕ) (d e : Design) → i < length xs → getD xs i d ≡ getD xs i e
+pub getD-within : (xs : List Design) (i : ℕ) (d e : Design) → i < length xs → getD xs i d ≡ getD xs i e
 getD-within [] i d e h = absurd (not-suc-le-zero h)
 getD-within (x ∷ xs) zero d e h = refl
 getD-within (x ∷ xs) (suc i) d e h = getD-within xs i d e (le-of-suc-le-suc h)

@@ -3,3 +3,4 @@ pub mod Laws
 pub mod Arrays
 pub mod Adding
 pub mod Entries
+pub mod Printed

@@ -2,7 +2,7 @@
 use mathlib.Core.Path.{_≡_}
 use mathlib.Core.Bool.{cond}
 use mathlib.Core.List.{List, [], _∷_, _++_}
-use Prim.Native.Nat.{ℕ, zero, suc, _+_, _-_, _/_, _%_}
+use Prim.Native.Nat.{ℕ, zero, suc, _+_, _-_, _*_, _/_, _%_}
 use lib.Dec.{ltb}
 use lib.ListN.{length, getD, take, drop}
 use Rattle.regular.specs.Columns.{planOf}
@@ -66,6 +66,25 @@ entry n place resolution columns pattern = start n place resolution columns ++ p
 abbrev pub refused : ℕ → List ℕ
 refused number = refusedWord ++ next number ++ newline
 
+-- "not a size\n"
+abbrev pub notASize : List ℕ
+notASize = 110 ∷ 111 ∷ 116 ∷ 32 ∷ 97 ∷ 32 ∷ 115 ∷ 105 ∷ 122 ∷ 101 ∷ newline
+
+-- the most bytes that a line without columns takes: a header with numbers of 20 digits; and that an entry's line takes: a place of four digits, a
+-- resolution and columns of three, counts of five
+abbrev pub headerMost : ℕ
+headerMost = 102
+
+abbrev pub entryMost : ℕ
+entryMost = 177
+
+-- the bytes that an entry's line asks for, its last number being of any size; those that suffice for the output of 1,024 entries
+abbrev pub entryRoom : ℕ
+entryRoom = entryMost + 15
+
+abbrev pub outputRoom : ℕ
+outputRoom = headerMost + 1024 * entryMost + 15
+
 -- the text t was added to the list `before` at place `at`, and ends at place `end` of `after`; the bytes past it are untouched
 pub record Adds (before after : List ℕ) (at : ℕ) (t : List ℕ) (end : ℕ) : Type 0 where
   pub text : take end after ≡ take at before ++ t
@@ -73,10 +92,10 @@ pub record Adds (before after : List ℕ) (at : ℕ) (t : List ℕ) (end : ℕ) 
   pub rest : drop end after ≡ drop end before
   pub size : length after ≡ length before
 
--- the line of the design d, the place-th entry, was put at the start of a list: its resolution and pattern are those of its plan
-pub record EntryLine (n g place : ℕ) (d : Design) (before after : List ℕ) (end : ℕ) : Type 0 where
+-- the line of the design d, the place-th entry, was added: its resolution and pattern are those of its plan
+pub record EntryLine (n g place : ℕ) (d : Design) (before after : List ℕ) (at end : ℕ) : Type 0 where
   pub resolution : ℕ
   pub pattern : List ℕ
   pub is-resolution : Resolution n (planOf n (n - g) (d .columns)) resolution
   pub is-pattern : Pattern n (planOf n (n - g) (d .columns)) pattern
-  pub text : Adds before after 0 (entry n place resolution (d .columns) pattern) end
+  pub text : Adds before after at (entry n place resolution (d .columns) pattern) end

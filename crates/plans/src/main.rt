@@ -2,12 +2,14 @@
 ghost use mathlib.Core.Path.{_≡_};
 ghost use mathlib.Core.Bool.{false};
 ghost use Prim.Native.Nat.{_≤_};
-ghost use lib.ListN.{replicate};
+ghost use lib.ListN.{length, take, replicate};
 ghost use Rattle.io.specs.Counts.{Counts};
 ghost use Rattle.regular.specs.Designs.{blank};
 ghost use Rattle.regular.specs.Catalogues.{ListsDesigns};
 ghost use Rattle.plans.specs.Lines.{DigitIs, SpaceIs, Part, Parsed};
-ghost use Rattle.plans.specs.Listed.{Listable, AllListable};
+ghost use Rattle.plans.specs.Listed.{AllListable};
+ghost use Rattle.plans.specs.Output.{EntryLines, SizeOutput, Output};
+ghost use Rattle.plans.specs.Text.{headerMost, outputRoom};
 use bits::wide_byte;
 use libc::STDIN_FILENO;
 use libc::STDOUT_FILENO;
@@ -15,6 +17,9 @@ use regular::CatalogueAnswer;
 use regular::Design;
 
 mod text;
+
+// The bytes that suffice for any output (`outputRoom`).
+const OUTPUT: usize = 102 + 1024 * 177 + 15;
 
 enum Got {
     Byte(u8),
@@ -203,62 +208,69 @@ fn fill(n: usize, g: usize, r: usize, d: Design) -> Filled
     Filled { answer, list }
 }
 
-// An entry's line.
-fn print_entry(n: usize, g: usize, place: usize, d: Design)
-    requires { ⌜ Listable n g d ⌝ }
+// The lines of the first count records of a list, from place at on. Says the place after them.
+fn add_entries(
+    n: usize,
+    g: usize,
+    count: usize,
+    list: [Design; 1024],
+    at: usize,
+    out: &mut [u8],
+) -> usize
+    requires { ⌜ (count ≤ 1024) × AllListable n g count list × (at ≤ headerMost) × (outputRoom ≤ length (now out)) ⌝ }
+    ensures { λ r. ⌜ EntryLines n g count list (now (out .entry)) (now (out .exit)) at r × (r ≤ outputRoom) ⌝ }
 {
-    let mut out = [0u8; 1024];
-    let k = text::entry_line(n, g, place, d, &mut out);
-    io::write_all(STDOUT_FILENO, &out[..k]);
-}
-
-// The lines of the first count records of a list.
-fn print_entries(n: usize, g: usize, count: usize, list: [Design; 1024])
-    requires { ⌜ (count ≤ 1024) × AllListable n g count list ⌝ }
-{
-    let mut i: usize = 0;
-    while i < count {
-        let d = list[i];
-        i += 1;
-        print_entry(n, g, i, d);
+    let mut place: usize = 1;
+    let mut end = at;
+    while place <= count {
+        let d = list[place - 1];
+        end = text::entry_line(n, g, place, d, end, out);
+        place += 1;
     }
+    end
 }
 
-fn print_header(n: usize, g: usize, r: usize, count: usize) {
-    let mut out = [0u8; 1024];
-    let k = text::header_line(n, g, r, count, &mut out);
-    io::write_all(STDOUT_FILENO, &out[..k]);
-}
-
-fn print_refused(number: u8) {
-    let mut out = [0u8; 1024];
-    let k = text::refused_line(number, &mut out);
-    io::write_all(STDOUT_FILENO, &out[..k]);
-}
-
-// The catalogue of a size, or the number that it is refused by.
-fn print_catalogue(n: usize, g: usize, r: usize) {
+// What is printed for a size: its catalogue, or the number that it is refused by. Says how many bytes.
+fn size_output(n: usize, g: usize, r: usize, out: &mut [u8]) -> usize
+    requires { ⌜ outputRoom ≤ length (now out) ⌝ }
+    ensures { λ res. ⌜ Counts res (now (out .exit)) × SizeOutput n g r (take res (now (out .exit))) ⌝ }
+{
     let d = begin();
     let filled = fill(n, g, r, d);
     let answer = filled.answer;
     let number = answer.number;
     if number != 0 {
-        print_refused(number);
-        return;
+        return text::refused_line(number, out);
     }
     let count = answer.count;
-    print_header(n, g, r, count);
+    let end = text::header_line(n, g, r, count, out);
     let list = filled.list;
-    print_entries(n, g, count, list);
+    add_entries(n, g, count, list, end, out)
+}
+
+// What is printed for a line: all of it, at the start of out. Says how many bytes.
+fn output(line: &[u8], out: &mut [u8]) -> usize
+    requires { ⌜ outputRoom ≤ length (now out) ⌝ }
+    ensures { λ r. ⌜ Counts r (now (out .exit)) × Output (now (line .entry)) (take r (now (out .exit))) ⌝ }
+{
+    let size = parse(line);
+    if size.ok {
+        return size_output(size.n, size.g, size.r, out);
+    }
+    text::no_size_line(out)
+}
+
+// Writes what is printed for a line: the one function that writes.
+fn write_output(line: &[u8], out: &[u8])
+    requires { ⌜ Output (now line) (now out) ⌝ }
+{
+    io::write_all(STDOUT_FILENO, out);
 }
 
 fn main() {
     let mut line = [0u8; 9];
     let n = read_line(&mut line);
-    let size = parse(&line[..n]);
-    if size.ok {
-        print_catalogue(size.n, size.g, size.r);
-        return;
-    }
-    io::write_all(STDOUT_FILENO, b"not a size\n");
+    let mut out = [0u8; OUTPUT];
+    let k = output(&line[..n], &mut out);
+    write_output(&line[..n], &out[..k]);
 }

@@ -1,10 +1,11 @@
 // The lines that are printed, made in a lent list of bytes: each function adds its text from a place on and says the place after it. The lines are
-// public for main.rt, which lends 1,024 bytes.
-ghost use Prim.Native.Nat.{_+_, _*_, _≤_};
+// public for main.rt. Of the bytes that a text may take, and of the room that it asks for, each function says the least that its arguments' types allow.
+ghost use Prim.Native.Nat.{_+_, _-_, _*_, _≤_};
 ghost use lib.ListN.{length};
-ghost use Rattle.io.specs.Counts.{Counts};
-ghost use Rattle.plans.specs.Text.{Adds, decimal, next, columnsText, countsText, headerLine, refused, start, entry, EntryLine};
+ghost use Rattle.plans.specs.Text.{Adds, decimal, next, columnsText, countsText, headerLine, refused, notASize, start, entry, EntryLine, headerMost, entryMost, entryRoom};
 ghost use Rattle.plans.specs.Listed.{Listable};
+use bits::wide;
+use bits::wide_byte;
 use regular::Design;
 
 // A text as it is.
@@ -44,13 +45,13 @@ fn add_next(x: u64, at: usize, out: &mut [u8]) -> usize
 
 // The columns of n factors, each after a space.
 fn add_columns(n: usize, columns: [u8; 16], at: usize, out: &mut [u8]) -> usize
-    requires { ⌜ (n ≤ 16) × (at + 21 * n ≤ length (now out)) ⌝ }
-    ensures { λ r. ⌜ Adds (now (out .entry)) (now (out .exit)) at (columnsText n columns) r × (r ≤ at + 21 * n) ⌝ }
+    requires { ⌜ (n ≤ 16) × (at + 4 * n + 17 ≤ length (now out)) ⌝ }
+    ensures { λ r. ⌜ Adds (now (out .entry)) (now (out .exit)) at (columnsText n columns) r × (r ≤ at + 4 * n) ⌝ }
 {
     let mut f: usize = 0;
     let mut end = at;
     while f < n {
-        let column = columns[f] as u64;
+        let column = wide_byte(columns[f]) as u64;
         end = add_next(column, end, out);
         f += 1;
     }
@@ -59,13 +60,13 @@ fn add_columns(n: usize, columns: [u8; 16], at: usize, out: &mut [u8]) -> usize
 
 // The counts of the words of three letters to n, each after a space.
 fn add_counts(n: usize, counts: [u16; 16], at: usize, out: &mut [u8]) -> usize
-    requires { ⌜ (n ≤ 16) × (at + 21 * n ≤ length (now out)) ⌝ }
-    ensures { λ r. ⌜ Adds (now (out .entry)) (now (out .exit)) at (countsText n counts) r × (r ≤ at + 21 * n) ⌝ }
+    requires { ⌜ (n ≤ 16) × (at + 6 * (n - 2) + 15 ≤ length (now out)) ⌝ }
+    ensures { λ r. ⌜ Adds (now (out .entry)) (now (out .exit)) at (countsText n counts) r × (r ≤ at + 6 * (n - 2)) ⌝ }
 {
     let mut l: usize = 2;
     let mut end = at;
     while l < n {
-        let count = counts[l] as u64;
+        let count = wide(counts[l]) as u64;
         end = add_next(count, end, out);
         l += 1;
     }
@@ -73,11 +74,18 @@ fn add_counts(n: usize, counts: [u16; 16], at: usize, out: &mut [u8]) -> usize
 }
 
 // The start of an entry's line: its place, resolution and columns.
-fn add_start(n: usize, place: usize, resolution: u8, columns: [u8; 16], out: &mut [u8]) -> usize
-    requires { ⌜ (n ≤ 16) × (734 ≤ length (now out)) ⌝ }
-    ensures { λ r. ⌜ Adds (now (out .entry)) (now (out .exit)) 0 (start n place resolution columns) r × (r ≤ 389) ⌝ }
+fn add_start(
+    n: usize,
+    place: usize,
+    resolution: u8,
+    columns: [u8; 16],
+    at: usize,
+    out: &mut [u8],
+) -> usize
+    requires { ⌜ (n ≤ 16) × (place ≤ 1024) × (at + entryRoom ≤ length (now out)) ⌝ }
+    ensures { λ r. ⌜ Adds (now (out .entry)) (now (out .exit)) at (start n place resolution columns) r × (r ≤ at + 84) ⌝ }
 {
-    let a = add_decimal(place as u64, 0, out);
+    let a = add_decimal(place as u64, at, out);
     let b = add_text(b" res", a, out);
     let c = add_next(resolution as u64, b, out);
     let d = add_text(b" columns", c, out);
@@ -91,34 +99,35 @@ fn add_entry(
     resolution: u8,
     columns: [u8; 16],
     counts: [u16; 16],
+    at: usize,
     out: &mut [u8],
 ) -> usize
-    requires { ⌜ (n ≤ 16) × (734 ≤ length (now out)) ⌝ }
-    ensures { λ r. ⌜ Counts r (now (out .exit)) × Adds (now (out .entry)) (now (out .exit)) 0 (entry n place resolution columns counts) r ⌝ }
+    requires { ⌜ (n ≤ 16) × (place ≤ 1024) × (at + entryRoom ≤ length (now out)) ⌝ }
+    ensures { λ r. ⌜ Adds (now (out .entry)) (now (out .exit)) at (entry n place resolution columns counts) r × (r ≤ at + entryMost) ⌝ }
 {
-    let a = add_start(n, place, resolution, columns, out);
+    let a = add_start(n, place, resolution, columns, at, out);
     let b = add_text(b" pattern", a, out);
     let c = add_counts(n, counts, b, out);
     add_text(b"\n", c, out)
 }
 
-// The line of an entry: its place, resolution, columns and counts. Says how many bytes.
-pub fn entry_line(n: usize, g: usize, place: usize, d: Design, out: &mut [u8]) -> usize
-    requires { ⌜ Listable n g d × (734 ≤ length (now out)) ⌝ }
-    ensures { λ r. ⌜ Counts r (now (out .exit)) × EntryLine n g place d (now (out .entry)) (now (out .exit)) r ⌝ }
+// The line of an entry: its place, resolution, columns and counts.
+pub fn entry_line(n: usize, g: usize, place: usize, d: Design, at: usize, out: &mut [u8]) -> usize
+    requires { ⌜ Listable n g d × (place ≤ 1024) × (at + entryRoom ≤ length (now out)) ⌝ }
+    ensures { λ r. ⌜ EntryLine n g place d (now (out .entry)) (now (out .exit)) at r × (r ≤ at + entryMost) ⌝ }
 {
     let answer = measures::resolution_of_design(n, g, d);
     let mut counts = [0u16; 16];
     measures::pattern_of_design(n, g, d, &mut counts);
     let resolution = answer.resolution;
     let columns = d.columns;
-    add_entry(n, place, resolution, columns, counts, out)
+    add_entry(n, place, resolution, columns, counts, at, out)
 }
 
 // The header: the size and the entry count.
 pub fn header_line(n: usize, g: usize, r: usize, count: usize, out: &mut [u8]) -> usize
-    requires { ⌜ 734 ≤ length (now out) ⌝ }
-    ensures { λ res. ⌜ Counts res (now (out .exit)) × Adds (now (out .entry)) (now (out .exit)) 0 (headerLine n g r count) res ⌝ }
+    requires { ⌜ headerMost ≤ length (now out) ⌝ }
+    ensures { λ res. ⌜ Adds (now (out .entry)) (now (out .exit)) 0 (headerLine n g r count) res × (res ≤ headerMost) ⌝ }
 {
     let a = add_text(b"catalogue", 0, out);
     let b = add_next(n as u64, a, out);
@@ -131,10 +140,18 @@ pub fn header_line(n: usize, g: usize, r: usize, count: usize, out: &mut [u8]) -
 
 // The line of a refusal.
 pub fn refused_line(number: u8, out: &mut [u8]) -> usize
-    requires { ⌜ 734 ≤ length (now out) ⌝ }
-    ensures { λ r. ⌜ Counts r (now (out .exit)) × Adds (now (out .entry)) (now (out .exit)) 0 (refused number) r ⌝ }
+    requires { ⌜ headerMost ≤ length (now out) ⌝ }
+    ensures { λ r. ⌜ Adds (now (out .entry)) (now (out .exit)) 0 (refused number) r × (r ≤ headerMost) ⌝ }
 {
     let a = add_text(b"refused", 0, out);
     let b = add_next(number as u64, a, out);
     add_text(b"\n", b, out)
+}
+
+// The line for what gives no size.
+pub fn no_size_line(out: &mut [u8]) -> usize
+    requires { ⌜ headerMost ≤ length (now out) ⌝ }
+    ensures { λ r. ⌜ Adds (now (out .entry)) (now (out .exit)) 0 notASize r × (r ≤ headerMost) ⌝ }
+{
+    add_text(b"not a size\n", 0, out)
 }

@@ -1,19 +1,19 @@
--- The counts that were passed are added, each within 21 bytes; below three letters there is none. The measure is the lengths that are left. Assumes nothing.
+-- The counts that were passed are added, each within 6 bytes; below three letters there is none. The measure is the lengths that are left. Assumes nothing.
 use mathlib.Core.Path.{_≡_, refl, ap}
 use mathlib.Core.Logic.{_⊎_, inl, inr, ⊎-elim}
-use Prim.Native.Nat.{_+_, _*_, _≤_, _-_}
+use Prim.Native.Nat.{ℕ, _+_, _*_, _≤_, _-_}
 use native.Mathlib.Omega.{arith}
 use lib.ListN.{length}
 use Rattle.regular.specs.Book.{each}
 use Rattle.regular.specs.Pattern.{ofLength}
 use Rattle.plans.specs.Text.{Adds, next, countsText}
-use Rattle.plans.proofs.Adding.{counts-none, adds-is, count-turn}
+use Rattle.plans.proofs.Adding.{counts-none, adds-is, next-short, count-turn}
 use borrow.Author.Needs.{needs}
 use Rattle.plans.proofs.text.add_counts.Statement.{statement}
 use Rattle.plans.proofs.text.add_counts.Tie as tie
 
 abbrev Inv-loop : tie.InvT-loop
-Inv-loop n at out₀ counts l₀ end₀ out l end = (n ≤ 16) × ((l ≤ n) ⊎ (l ≡ 2)) × (2 ≤ l) × (end ≤ at + 21 * (l - 2)) × (at + 21 * n ≤ length out₀) × (16 ≡ length counts) × Adds out₀ out at (countsText l counts) end
+Inv-loop n at out₀ counts l₀ end₀ out l end = (n ≤ 16) × ((l ≤ n) ⊎ (l ≡ 2)) × (2 ≤ l) × (end ≤ at + 6 * (l - 2)) × (at + 6 * (n - 2) + 15 ≤ length out₀) × (16 ≡ length counts) × Adds out₀ out at (countsText l counts) end
 
 abbrev μ-loop : tie.MeasureT-loop
 μ-loop n at out₀ counts l₀ end₀ out l end = n - l
@@ -21,19 +21,19 @@ abbrev μ-loop : tie.MeasureT-loop
 loop-holds : tie.Need-loop-holds Inv-loop μ-loop
 loop-holds c = (c .before .pre .0, inr refl, omega arith, omega arith, c .before .pre .1, search needs, counts-none _ _ (c .before .args .t2))
 
-mul-count : tie.Need-mul-count Inv-loop μ-loop
-mul-count c = search needs
+mul-wide : tie.Need-mul-wide Inv-loop μ-loop
+mul-wide c = search needs
 
-array-read-count : tie.Need-array-read-count Inv-loop μ-loop
-array-read-count c = search needs
+array-read-wide : tie.Need-array-read-wide Inv-loop μ-loop
+array-read-wide c = search needs
 
-cast-count : tie.Need-cast-count Inv-loop μ-loop
-cast-count c = search needs
+wide-requires : tie.Need-wide-requires Inv-loop μ-loop
+wide-requires c κs = search needs
 
 add-next-requires : tie.Need-add-next-requires Inv-loop μ-loop
 add-next-requires c κs =
-    let l = c .before .before .loop .inv in
-    omega (arith, l, l .6 .size, c .before .loop-test .taken)
+    let l = c .before .before .before .loop .inv in
+    omega (arith, l, l .6 .size, c .before .before .loop-test .taken)
 
 add-l : tie.Need-add-l Inv-loop μ-loop
 add-l c = search needs
@@ -43,11 +43,12 @@ loop-less c = search needs
 
 loop-again : tie.Need-loop-again Inv-loop μ-loop
 loop-again c =
-    let a = c .before .before .before .before .before .before .before .args in
-    let l = c .before .before .before .before .before .loop in
-    let t = c .before .before .before .before .loop-test .taken in
+    let a = c .before .before .before .before .before .before .before .before .args in
+    let l = c .before .before .before .before .before .before .loop in
+    let t = c .before .before .before .before .before .loop-test .taken in
+    let w = c .before .before .before .before .wide in
     let h = c .before .before .add-next .ensures in
-    (l .inv .0, inl (omega (arith, t)), omega (arith, l .inv .2), omega (arith, h .1, l .inv), l .inv .4, l .inv .5, count-turn (a .t2) (l .l) (l .inv .2) (l .inv .6) (h .0))
+    (l .inv .0, inl (omega (arith, t)), omega (arith, l .inv .2), omega (arith, h .0 .place, next-short 4 (w .result) (omega (arith, w .ensures)), l .inv), l .inv .4, l .inv .5, count-turn (a .t2) (l .l) (l .inv .2) (l .inv .6) (adds-is (ap (λ (x : ℕ). next x) (w .ensures .0)) (h .0)))
 
 same-length : tie.Need-same-length Inv-loop μ-loop
 same-length c = search needs
@@ -66,9 +67,9 @@ add-counts-spec =
     Inv-loop
     μ-loop
     loop-holds
-    mul-count
-    array-read-count
-    cast-count
+    mul-wide
+    array-read-wide
+    wide-requires
     add-next-requires
     add-l
     loop-less

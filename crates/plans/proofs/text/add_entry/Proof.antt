@@ -1,6 +1,6 @@
 -- The start of the line, then the counts. Assumes nothing.
 use native.Mathlib.Omega.{arith}
-use Rattle.plans.proofs.Adding.{adds-more, line-of}
+use Rattle.plans.proofs.Adding.{adds-more}
 use borrow.Author.Needs.{needs}
 use Rattle.plans.proofs.text.add_entry.Statement.{statement}
 use Rattle.plans.proofs.text.add_entry.Tie as tie
@@ -36,7 +36,7 @@ returns c =
     let t2 = p2 .add-text .ensures in
     let t3 = p3 .add-counts .ensures in
     let t4 = p4 .add-text2 .ensures in
-    line-of (adds-more (adds-more (adds-more (t1 .0) t2) (t3 .0)) t4) (omega (arith, t1 .1, t2 .place, t3 .1, t4 .place, p1 .before .before .before .pre))
+    (adds-more (adds-more (adds-more (t1 .0) t2) (t3 .0)) t4, omega (arith, t1 .1, t2 .place, t3 .1, t4 .place, p1 .before .before .before .pre))
 
 pub add-entry-spec : {M : Type 1} → statement M
 add-entry-spec =

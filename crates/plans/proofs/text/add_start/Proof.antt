@@ -1,6 +1,6 @@
 -- The words and numbers, one after another; a number after a space takes at most 21 bytes. Assumes nothing.
 use native.Mathlib.Omega.{arith}
-use Rattle.plans.proofs.Adding.{adds-more}
+use Rattle.plans.proofs.Adding.{adds-more, decimal-short, next-short}
 use borrow.Author.Needs.{needs}
 use Rattle.plans.proofs.text.add_start.Statement.{statement}
 use Rattle.plans.proofs.text.add_start.Tie as tie
@@ -41,7 +41,10 @@ returns c =
     let t3 = p3 .add-next .ensures in
     let t4 = p4 .add-text2 .ensures in
     let t5 = p5 .add-columns .ensures in
-    (adds-more (adds-more (adds-more (adds-more (t1 .0) t2) (t3 .0)) t4) (t5 .0), omega (arith, t1 .1, t2 .place, t3 .1, t4 .place, t5 .1, p1 .before .before .before .pre .0))
+    let a = p1 .before .before .before in (
+      adds-more (adds-more (adds-more (adds-more (t1 .0) t2) (t3 .0)) t4) (t5 .0),
+      omega (arith, t1 .0 .place, decimal-short 3 (a .args .place) (omega (arith, a .pre)), t2 .place, t3 .0 .place, next-short 2 (a .args .resolution) (omega (arith, a .fits .resolution .fits)), t4 .place, t5 .1, a .pre),
+    )
 
 pub add-start-spec : {M : Type 1} → statement M
 add-start-spec =

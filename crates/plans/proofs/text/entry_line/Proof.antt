@@ -25,7 +25,7 @@ returns c =
     let p = c .before .before .before .before .before .before .pattern-of-design .ensures in
     let q = c .before .before .before .before .before .before .before .before .resolution-of-design .ensures in
     let l = c .before .before .before .before .before .before .before .before .before .before .pre .0 in
-    (e .0, record { resolution = _; pattern = _; is-resolution = listed-gives l q; is-pattern = listed-fills l (l .size .most) p; text = e .1 })
+    (record { resolution = _; pattern = _; is-resolution = listed-gives l q; is-pattern = listed-fills l (l .size .most) p; text = e .0 }, e .1)
 
 pub entry-line-spec : {M : Type 1} → statement M
 entry-line-spec =

@@ -1,6 +1,6 @@
 -- The words and numbers, one after another. Assumes nothing.
 use native.Mathlib.Omega.{arith}
-use Rattle.plans.proofs.Adding.{adds-more, line-of}
+use Rattle.plans.proofs.Adding.{adds-more}
 use borrow.Author.Needs.{needs}
 use Rattle.plans.proofs.text.header_line.Statement.{statement}
 use Rattle.plans.proofs.text.header_line.Tie as tie
@@ -53,9 +53,10 @@ returns c =
     let t4 = p4 .add-next3 .ensures in
     let t5 = p5 .add-text2 .ensures in
     let t6 = p6 .add-next4 .ensures in
-    let t7 = p7 .add-text3 .ensures in
-    line-of (adds-more (adds-more (adds-more (adds-more (adds-more (adds-more t1 (t2 .0)) (t3 .0)) (t4 .0)) t5) (t6 .0)) t7)
-    (omega (arith, t1 .place, t2 .1, t3 .1, t4 .1, t5 .place, t6 .1, t7 .place, p1 .before .before .before .before .pre))
+    let t7 = p7 .add-text3 .ensures in (
+      adds-more (adds-more (adds-more (adds-more (adds-more (adds-more t1 (t2 .0)) (t3 .0)) (t4 .0)) t5) (t6 .0)) t7,
+      omega (arith, t1 .place, t2 .1, t3 .1, t4 .1, t5 .place, t6 .1, t7 .place),
+    )
 
 pub header-line-spec : {M : Type 1} → statement M
 header-line-spec =

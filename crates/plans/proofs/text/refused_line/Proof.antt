@@ -1,6 +1,6 @@
 -- The word, the number and the line's end. Assumes nothing.
 use native.Mathlib.Omega.{arith}
-use Rattle.plans.proofs.Adding.{adds-more, line-of}
+use Rattle.plans.proofs.Adding.{adds-more}
 use borrow.Author.Needs.{needs}
 use Rattle.plans.proofs.text.refused_line.Statement.{statement}
 use Rattle.plans.proofs.text.refused_line.Tie as tie
@@ -31,7 +31,7 @@ returns c =
     let t = o .add-text .ensures in
     let u = q .add-next .ensures in
     let v = p .add-text2 .ensures in
-    line-of (adds-more (adds-more t (u .0)) v) (omega (arith, t .place, u .1, v .place, o .before .before .before .before .pre))
+    (adds-more (adds-more t (u .0)) v, omega (arith, t .place, u .1, v .place))
 
 pub refused-line-spec : {M : Type 1} → statement M
 refused-line-spec =
