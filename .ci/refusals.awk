@@ -1,7 +1,9 @@
 # Reads the log of a must-fail edit. A line for each function that was refused and for each law that an error names, its fields between tabs:
 #   name, account, need, quote
 # account: 'own' if a fact of it no longer holds ('law' for a law); 'callee' if it calls a function that is not proved; 'place' if its proof file lost a place, so
-# that the proof rather than a fact fails, or a law cannot be read. need: what the first error in its proof file names. quote: what that error says, in its own words, shortened:
+# that the proof rather than a fact fails, or a law cannot be read. In a proof by hand every step of the walk names the code that it walks: an error in a step is
+# a lost place whatever it says, and only an error in a law beside the walk is one of a fact.
+# need: what the first error in its proof file names. quote: what that error says, in its own words, shortened:
 #   - of two types, sides or indices that differ, the statement of where they do, as computed if the error has that, else as printed;
 #   - of numbers at which a need fails, the first three; of a goal that no proof was found of, that statement;
 #   - in each term modules and the way to a name are left out, and it ends in '..' after 60 bytes, at a blank; a term in the prover's own words is its head and '..'.
@@ -107,6 +109,21 @@ function of_a_fact(need, text) {
     return text ~ /the goal does not follow|no proof of|the two (types|sides) (first )?differ|the two indices are|but this has type|are absurd/
 }
 
+# Whether what an error names is a step of a walk by hand: the file names the code that it walks, and the statement speaks of the program logic.
+# What cannot be looked up counts as one.
+function walk_step(file, name,    line, lines, by_hand, inside, said) {
+    while ((getline line < file) > 0) {
+        lines++
+        if (line ~ /\.Code as code$/) by_hand = 1
+        sub(/^ *(pub )?/, "", line)
+        if (index(line, name " : ") == 1) inside = 1
+        else if (index(line, name " ") == 1 || line ~ /^unfolding /) inside = 0
+        if (inside) said = said line
+    }
+    close(file)
+    return !lines || by_hand && (said == "" || said ~ /𝓤|Sq |Stays |statement/)
+}
+
 # Takes up the error that was read last: its first line and the lines after it.
 function take_error(    place, need, text, name, names, k) {
     if (error == "") return
@@ -131,7 +148,7 @@ function take_error(    place, need, text, name, names, k) {
     sub(/.*\//, "", name)
     for (k = split(name, names, "+"); k > 1; k--) if (index(need, names[k] "-") == 1) break   # several functions in a cycle: the need names one
     name = names[k]
-    if (!of_a_fact(need, text)) lost[name] = need
+    if (!of_a_fact(need, text) || walk_step(place, need)) lost[name] = need
     if (!(name in first)) {
         first[name] = need
         why[name] = quote(text)

@@ -37,7 +37,8 @@ fn advance(n: usize, g: usize, r: usize, i: usize, room: bool, c: [u8; 16], trai
         };
     }
     let e = next_entry(n, n - g, r, 0 < i, c, trail);
-    if !e.found {
+    let found = e.found;
+    if !found {
         return Turn {
             found: false,
             number: 0,

@@ -35,27 +35,29 @@ next-entry-requires c κs =
 
 returns-2 : tie.Need-returns-2
 returns-2 c =
-    let s = c .before .before .before .before .before in
-    let a = s .args in
-    let n = c .before .before .before .before .bounds-number .ensures in
-    let z : Sized (a .n) (a .g) (a .r) = n .1 (omega (arith, c .before .before .before .if1 .left)) in
-    turn-ended _ _ _ _ _ _ z _ _ (c .before .before .next-entry .ensures .stepped) (not-true _ (c .if2 .taken)) _ _
+    let e = c .before in
+    let b = e .before .before in
+    let a = b .before .args in
+    let z : Sized (a .n) (a .g) (a .r) = b .bounds-number .ensures .1 (omega (arith, e .before .if1 .left)) in
+    turn-ended _ _ _ _ _ _ z _ _ (e .next-entry .ensures .stepped) (not-true _ (c .if2 .taken)) _ _
 
 returns-3 : tie.Need-returns-3
 returns-3 c =
-    let s = c .before .before .before .before .before .before in
-    let a = s .args in
-    let n = c .before .before .before .before .before .bounds-number .ensures in
-    let z : Sized (a .n) (a .g) (a .r) = n .1 (omega (arith, c .before .before .before .before .if1 .left)) in
-    turn-full _ _ _ _ _ _ z _ _ (c .before .before .before .next-entry .ensures .stepped) (not-false _ (c .before .if2 .left)) (not-true _ (c .if3 .taken)) _ _
+    let e = c .before .before in
+    let b = e .before .before in
+    let a = b .before .args in
+    let z : Sized (a .n) (a .g) (a .r) = b .bounds-number .ensures .1 (omega (arith, e .before .if1 .left)) in
+    turn-full _ _ _ _ _ _ z _ _ (e .next-entry .ensures .stepped) (not-false _ (c .before .if2 .left)) (not-true _ (c .if3 .taken)) _ _
 
 returns-4 : tie.Need-returns-4
 returns-4 c =
-    let s = c .before .before .before .before .before .before .before .before in
-    let a = s .args in
-    let n = c .before .before .before .before .before .before .before .bounds-number .ensures in
-    let z : Sized (a .n) (a .g) (a .r) = n .1 (omega (arith, c .before .before .before .before .before .before .if1 .left)) in
-    turn-goes _ _ _ _ _ _ z _ _ (c .before .before .before .before .before .next-entry .ensures .stepped) (not-false _ (c .before .before .before .if2 .left)) (not-false _ (c .before .before .if3 .left)) _ _ (c .before .before .before .before .before .next-entry .ensures .followed (not-false _ (c .before .before .before .if2 .left)))
+    let roomy = c .before .before in
+    let e = roomy .before .before in
+    let b = e .before .before in
+    let a = b .before .args in
+    let z : Sized (a .n) (a .g) (a .r) = b .bounds-number .ensures .1 (omega (arith, e .before .if1 .left)) in
+    let found = not-false _ (roomy .before .if2 .left) in
+    turn-goes _ _ _ _ _ _ z _ _ (e .next-entry .ensures .stepped) found (not-false _ (roomy .if3 .left)) _ _ (e .next-entry .ensures .followed found)
 
 pub advance-spec : {M : Type 1} → statement M
 advance-spec =
