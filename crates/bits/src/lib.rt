@@ -11,7 +11,7 @@ pub fn parity(j: u16, c: u16) -> u16
     (u16::count_ones(j & c) & 1) as u16
 }
 
-// Bit f of x. Called by the forms of a plan, the renaming of runs and the check of a witness.
+// Bit f of x. Called by the forms of a plan, the renaming of runs, the masks of the comparison and the check of a witness.
 pub fn level(x: u16, f: usize) -> u16
     requires { ⌜ f < 16 ⌝ }
     ensures { λ r. ⌜ (r ≡ bit f x) × (r < 2) ⌝ }

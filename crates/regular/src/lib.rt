@@ -26,7 +26,7 @@ pub struct ResolutionAnswer {
     pub resolution: u8,
 }
 
-// Whether the standard columns of a plan were found, and they; sixteen zeros or what was found so far if not.
+// Whether the standard columns of a plan were found, and they; sixteen zeros if not.
 pub struct Standardized {
     pub ok: bool,
     pub columns: [u8; 16],
