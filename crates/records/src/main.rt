@@ -232,14 +232,18 @@ fn call_for_numbers(call: usize, n: usize, g: usize, k: usize, d: Design) {
     print_lent_numbers(out);
 }
 
-// The calls on records that fill a lent list of names.
+// The calls on records that fill a lent list of names. The smallest form is asked for where the other arguments' number is 8 at most.
 fn fill_names(call: usize, n: usize, g: usize, list: &[u16], names: &mut [u8]) {
     let d = design_at(list, 0);
     if call == 11 {
         print_compared(comparison::compare_designs(n, g, d, design_at(list, RECORD), names));
         return;
     }
-    print_smallest(reduction::form_of_design(n, g, d, byte_at(list, RECORD), names));
+    let other = byte_at(list, RECORD);
+    if 8 < other {
+        return;
+    }
+    print_smallest(reduction::form_of_design(n, g, d, other, names));
 }
 
 // The same with k places lent; what it answers, and the whole list after it.

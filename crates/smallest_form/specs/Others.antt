@@ -1,25 +1,37 @@
 -- The arguments beside the plan: a list of records, or a list of plans one after another and a lent list.
 use Prim.Native.Nat.{ℕ, _≤_}
-use mathlib.Core.Logic.{inl, inr, ⊎-elim}
+use mathlib.Core.Logic.{inl, ⊎-elim, by-cases}
 use mathlib.Core.List.{List}
 use native.Mathlib.Omega.{arith}
-use lib.ListN.{length, getD}
-use Rattle.regular.specs.Designs.{blank}
-use Rattle.regular.specs.PlanLists.{BytesFault, planAt, recordsFaults, plansFaults, wantedPlansFaults}
+use native.Mathlib.Decide.{decLt}
+use lib.ListN.{length}
+use Rattle.regular.specs.PlanLists.{recordsFaults, plansFaults, wantedRecordsFaults, wantedPlansFaults}
 use Rattle.regular.specs.Refusals.{LentFault, either, Lowest}
-use Rattle.regular.specs.RefusalLaws.{size-most, design-faults-most, columns-faults-most, lent-is}
+use Rattle.regular.specs.RefusalLaws.{lent-is}
 use Rattle.regular.specs.declared.Design.{Design}
+use Rattle.plan_lists.specs.Accepted.{records-most as wanted-records-most, plans-most as wanted-plans-most}
 use Rattle.plan_lists.specs.Judging.{three-plans}
 use Rattle.lent.specs.Lending.{Lending, lending-lowest}
 
 pub records-most : (n g : ℕ) (list : List Design) (k : ℕ) → recordsFaults n g list k → k ≤ 8
-records-most n g list k (inl s) = omega (arith, size-most n g k s)
-records-most n g list k (inr (i, (h, f))) = omega (arith, design-faults-most n g (getD list i blank) k f)
+records-most n g list k f = omega (arith, wanted-records-most n g 3 list k (inl f))
 
 plans-most : (n g : ℕ) (bytes : List ℕ) (k : ℕ) → plansFaults n g bytes k → k ≤ 8
-plans-most n g bytes k (inl s) = omega (arith, size-most n g k s)
-plans-most n g bytes k (inr (inl (BytesFault.count h))) = omega arith
-plans-most n g bytes k (inr (inr (i, (h, f)))) = omega (arith, columns-faults-most n g (planAt n bytes i) k f)
+plans-most n g bytes k f = omega (arith, wanted-plans-most n g 3 bytes k (inl f))
+
+-- the number of the other arguments is 8 at most, whatever resolution is wanted of the list
+lowest-most : (F : ℕ → Type 0) (most : ℕ) → ((k : ℕ) → F k → k ≤ most) → (k : ℕ) → Lowest F k → k ≤ most
+lowest-most F most h k low = by-cases (decLt 0 k) (λ l. h k (low .applies l)) (λ l. omega arith)
+
+pub records-number : (n g r : ℕ) (list : List Design) (k : ℕ) → Lowest (wantedRecordsFaults n g r list) k → k ≤ 8
+records-number n g r list k low = omega (arith, lowest-most (wantedRecordsFaults n g r list) 7 (wanted-records-most n g r list) k low)
+
+pub others-number : {n g r : ℕ} {list : List ℕ} {places room listed other : ℕ}
+    → Lowest (wantedPlansFaults n g r list) listed → Lending listed places room other → other ≤ 8
+others-number {n} {g} {r} {list} {listed = listed} low (Lending.passed h) =
+    omega (arith, lowest-most (wantedPlansFaults n g r list) 7 (wanted-plans-most n g r list) listed low)
+others-number low (Lending.short e h) = omega arith
+others-number low (Lending.none e h) = omega arith
 
 -- the list judged for a resolution of 3, then the lent list
 module _ (n g : ℕ) (list : List ℕ) (places : ℕ) (out : List ℕ) where

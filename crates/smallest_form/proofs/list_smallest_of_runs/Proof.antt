@@ -2,11 +2,12 @@
 use mathlib.Core.Path.{_≡_}
 use Rattle.regular.specs.Runs.{runsOf}
 use Rattle.regular.specs.Same.{moved}
+use native.Mathlib.Omega.{arith}
 use lib.ListN.{length, getD}
 use Rattle.regular.specs.Refusals.{runsFaults}
 use Rattle.regular.specs.RefusalLaws.{runs-faults-most}
 use Rattle.lent.specs.Lending.{lending-accepted}
-use Rattle.smallest_form.specs.Others.{others, others-most, others-lowest}
+use Rattle.smallest_form.specs.Others.{others, others-most, others-lowest, others-number}
 use Rattle.smallest_form.specs.Placed.{formed-other, formed-into}
 use Rattle.smallest_form.proofs.list_smallest_of_runs.Statement.{statement}
 use Rattle.smallest_form.proofs.list_smallest_of_runs.Tie as tie
@@ -19,7 +20,7 @@ lending-requires : tie.Need-lending-requires
 lending-requires c κs = search needs
 
 form-of-runs-requires : tie.Need-form-of-runs-requires
-form-of-runs-requires c κs = search needs
+form-of-runs-requires c κs = omega (arith, others-number (c .before .before .plans-refusal .ensures) (c .before .lending .ensures))
 
 placed-into-requires : tie.Need-placed-into-requires
 placed-into-requires c κs = λ e.

@@ -2,12 +2,13 @@
 use Prim.Native.Nat.{ℕ, _-_}
 use mathlib.Core.Path.{_≡_, subst, _∙_}
 use Rattle.regular.specs.Columns.{planOf}
+use native.Mathlib.Omega.{arith}
 use lib.ListN.{length}
 use Rattle.regular.specs.Refusals.{columnsFaults, LentFault, either}
 use Rattle.regular.specs.RefusalLaws.{columns-faults-most}
 use Rattle.regular.specs.SmallestAnswers.{ReducesInto}
 use Rattle.lent.specs.Lending.{lending-accepted}
-use Rattle.smallest_form.specs.Others.{others, others-most, others-lowest}
+use Rattle.smallest_form.specs.Others.{others, others-most, others-lowest, others-number}
 use Rattle.smallest_form.specs.Placed.{formed-other, formed-mask, formed-into}
 use Rattle.smallest_form.proofs.smallest_of_columns.Statement.{statement}
 use Rattle.smallest_form.proofs.smallest_of_columns.Tie as tie
@@ -20,7 +21,7 @@ lending-requires : tie.Need-lending-requires
 lending-requires c κs = search needs
 
 form-of-columns-requires : tie.Need-form-of-columns-requires
-form-of-columns-requires c κs = search needs
+form-of-columns-requires c κs = omega (arith, others-number (c .before .before .plans-refusal .ensures) (c .before .lending .ensures))
 
 placed-into-requires : tie.Need-placed-into-requires
 placed-into-requires c κs = λ e.

@@ -2,7 +2,7 @@
 -- in the list. The list is read alone, so what it owns is had three times: for the two calls and for the exit. The witness's list is given up to
 -- `form_of_design`, at its own lifetime, share and name: what that says of the last list is what is said at the exit. Assumes nothing.
 use mathlib.Core.Path.{_≡_, refl, ap}
-use Prim.Native.Nat.{ℕ, _-_, _<_, _^_}
+use Prim.Native.Nat.{ℕ, _-_, _≤_, _<_, _^_}
 use mathlib.Core.List.{[], _∷_, List}
 use lib.Dec.{lit<}
 use lib.ListN.{length}
@@ -48,7 +48,7 @@ use Rattle.regular.specs.declared.Design.{Design}
 use Rattle.regular.specs.declared.SmallestAnswer.{SmallestAnswer}
 use Rattle.plan_lists.specs.Judging.{three-records}
 use Rattle.reduction.specs.Formed.{Formed}
-use Rattle.smallest_form.specs.Others.{records-most}
+use Rattle.smallest_form.specs.Others.{records-most, records-number}
 use Rattle.smallest_form.specs.Placed.{Placed, formed-reduces}
 use Rattle.regular.proofs.Design as T
 use Rattle.regular.proofs.Design.Laws as T′
@@ -139,13 +139,13 @@ module _ {M : Type 1} (𝓤 : URA M) (H : Heap 𝓤) (A : Atoms 𝓤) (W : Given
     abbrev to-form : ℕ → Form 𝓤 H A mem run .Ghost
     to-form k = (((λ′, tt), (q′, tt), tt, (n, (g, (d, (k, (y, tt))))), (vint w64 n ∷ [], (vint w64 g ∷ [], (mach d ∷ [], (vint w8 k ∷ [], (s′ ∷ [], tt)))))), tt)
 
-    goes-form : (k : ℕ) → k < 2 ^ 8 → ent 𝓤 (sep 𝓤 (A .lft λ′ q′) (sem 𝓤 H A Lent)) (Form 𝓤 H A mem run .pre (to-form k))
-    goes-form k k-fits =
+    goes-form : (k : ℕ) → k < 2 ^ 8 → k ≤ 8 → ent 𝓤 (sep 𝓤 (A .lft λ′ q′) (sem 𝓤 H A Lent)) (Form 𝓤 H A mem run .pre (to-form k))
+    goes-form k k-fits small =
         qed W (‵ (flft λ′ q′) ∷ ‵ Lent ∷ []) ∵
-        nothing ! $ move ! (2 ∷ 0 ∷ []) $ fjoin ! $ owned ! u8 (Is u8) (uint-makes 𝓤 H A W w8) k _ (refl, k-fits) $ fjoin ! $
+        says ! small $ nothing ! $ move ! (2 ∷ 0 ∷ []) $ fjoin ! $ owned ! u8 (Is u8) (uint-makes 𝓤 H A W w8) k _ (refl, k-fits) $ fjoin ! $
         owned ! T.the-row (Is T.the-row) (LL.makes T.the-type T′.the-plain 𝓤 H A) d _ is-d $ fjoin ! $
         owned ! usize (Is usize) (uint-makes 𝓤 H A W w64) g _ (refl, g-fits) $ fjoin ! $ owned ! usize (Is usize) (uint-makes 𝓤 H A W w64) n _ (refl, n-fits) $ fjoin ! $
-        nothing ! $ move ! (2 ∷ 0 ∷ []) $ join ! $ join ! $ frame ! $ done !
+        nothing ! $ move ! (2 ∷ 0 ∷ []) $ join ! $ frame ! $ done !
 
     exits : (r : SmallestAnswer) (v : Val) (zs : List ℕ) → Is S.the-row r (v ∷ []) → Promised zs r → length zs ≡ length ys
         → ent 𝓤 (⋆ 𝓤 H A (‵ (flft κ q) ∷ ‵ (flft λ′ q′) ∷ ‵ (finally u8 γ′ zs) ∷ ‵ Own ∷ [])) (Post v)
@@ -187,7 +187,7 @@ module _ {M : Type 1} (𝓤 : URA M) (H : Heap 𝓤) (A : Atoms 𝓤) (W : Given
           land ! (from ! (stop !)) (init ! 13 refl (uint-lawful 𝓤 H A W w8 .typed k _ is-k .0)) $ rewrite ! 13 (λ (z : Val). ‵ (fat fullShare byte l₆ 0 z)) (ap only (is-k .0)) refl $
           assigns ! (addr ! (from ! (fld ! refl (hop ! (look-in ! 15 (sub ! 0 refl (whole !))) (stop !))))) (from ! (stop !)) (init ! 7 refl (tt, tt)) $
           assigns ! (agg ! (and-then ! (load ! (from ! (stop !)) (look ! 7 refl)) (and-then ! (load ! (from ! (fld ! refl (stop !))) (look-in ! 15 (sub ! 1 refl (whole !)))) (no-more !)))) (from ! (stop !)) (init ! 5 refl (tt, (tt, (record { fits = room′ .0 }, tt)))) $
-          move ! (1 ∷ 2 ∷ []) $ use2 W (raw (Form 𝓤 H A mem run .pre (to-form k))) (goes-form k (is-k .1)) $
+          move ! (1 ∷ 2 ∷ []) $ use2 W (raw (Form 𝓤 H A mem run .pre (to-form k))) (goes-form k (is-k .1) (records-number n g asked ds k low)) $
           calls-at ! fm (Form 𝓤 H A mem run) forms (to-form k)
           (and-then ! (load ! (from ! (stop !)) (look ! 22 refl)) (and-then ! (load ! (from ! (stop !)) (look ! 20 refl)) (and-then ! (load ! (from ! (stop !)) (look ! 18 refl)) (and-then ! (load ! (from ! (stop !)) (look ! 12 refl)) (and-then ! (load ! (from ! (stop !)) (look ! 4 refl)) (no-more !)))))) (λ v₂.
           use1 W (later (some (λ (u : SmallestAnswer). ((‵ (flft λ′ q′) ⊛ ‵ ftrue) ⊛ ‵ (S.the-row .own u (v₂ ∷ []))) ⊛ raw (ensured 𝓤 H A form.ended (form.clauses 𝓤 H A mem run) (λ′, tt) (n, (g, (d, (k, (y, tt))))) tt u)))) (id⊢ 𝓤 _) $ await ! tt $ pick ! (λ u.

@@ -1,7 +1,7 @@
 -- `smallest_form::smallest_of_runs` meets its contract: a walk of its MIR, by hand, as that of `smallest_of_design`; the run table is a lent list
 -- that is read alone, so what it owns is had twice: for `form_of_runs` and for the exit. Assumes nothing.
 use mathlib.Core.Path.{_≡_, refl, ap}
-use Prim.Native.Nat.{ℕ, _-_, _<_, _^_}
+use Prim.Native.Nat.{ℕ, _-_, _≤_, _<_, _^_}
 use mathlib.Core.List.{[], _∷_, List}
 use lib.Dec.{lit<}
 use lib.ListN.{length, getD}
@@ -48,7 +48,7 @@ use Rattle.regular.specs.declared.Design.{Design}
 use Rattle.regular.specs.declared.SmallestAnswer.{SmallestAnswer}
 use Rattle.plan_lists.specs.Judging.{three-records}
 use Rattle.reduction.specs.Formed.{Formed}
-use Rattle.smallest_form.specs.Others.{records-most}
+use Rattle.smallest_form.specs.Others.{records-most, records-number}
 use Rattle.smallest_form.specs.Placed.{Placed, formed-reduces}
 use Rattle.regular.proofs.Design as T
 use Rattle.regular.proofs.SmallestAnswer as S
@@ -147,12 +147,14 @@ module _ {M : Type 1} (𝓤 : URA M) (H : Heap 𝓤) (A : Atoms 𝓤) (W : Given
     abbrev to-form : ℕ → Form 𝓤 H A mem run .Ghost
     to-form k = (((μ, (λ′, tt)), (p₀, (q′, tt)), tt, (n, (g, (w, (k, (y, tt))))), (vint w64 n ∷ [], (vint w64 g ∷ [], (s₀ ∷ [], (vint w8 k ∷ [], (s′ ∷ [], tt)))))), tt)
 
-    goes-form : (k : ℕ) → k < 2 ^ 8 → ent 𝓤 (sep 𝓤 (sep 𝓤 (A .lft λ′ q′) (sem 𝓤 H A Lent)) (sep 𝓤 (A .lft μ p₀) (sem 𝓤 H A OwnTable))) (Form 𝓤 H A mem run .pre (to-form k))
-    goes-form k k-fits =
-        qed W ((‵ (flft λ′ q′) ⊛ ‵ Lent) ∷ (‵ (flft μ p₀) ⊛ ‵ OwnTable) ∷ []) ∵ split ! $ move ! (2 ∷ []) $ split ! $
+    goes-form : (k : ℕ) → k < 2 ^ 8 → k ≤ 8
+        → ent 𝓤 (sep 𝓤 (sep 𝓤 (A .lft λ′ q′) (sem 𝓤 H A Lent)) (sep 𝓤 (A .lft μ p₀) (sem 𝓤 H A OwnTable))) (Form 𝓤 H A mem run .pre (to-form k))
+    goes-form k k-fits small =
+        qed W ((‵ (flft λ′ q′) ⊛ ‵ Lent) ∷ (‵ (flft μ p₀) ⊛ ‵ OwnTable) ∷ []) ∵
+        says ! small $ split ! $ move ! (2 ∷ []) $ split ! $
         nothing ! $ move ! (4 ∷ 0 ∷ []) $ fjoin ! $ owned ! u8 (Is u8) (uint-makes 𝓤 H A W w8) k _ (refl, k-fits) $ fjoin ! $ move ! (2 ∷ 0 ∷ []) $ fjoin ! $
         owned ! usize (Is usize) (uint-makes 𝓤 H A W w64) g _ (refl, g-fits) $ fjoin ! $ owned ! usize (Is usize) (uint-makes 𝓤 H A W w64) n _ (refl, n-fits) $ fjoin ! $
-        nothing ! $ move ! (3 ∷ 0 ∷ []) $ join ! $ move ! (2 ∷ 0 ∷ []) $ join ! $ join ! $ frame ! $ done !
+        nothing ! $ move ! (3 ∷ 0 ∷ []) $ join ! $ move ! (2 ∷ 0 ∷ []) $ join ! $ frame ! $ done !
 
     exits : (r : SmallestAnswer) (v : Val) (zs : List ℕ) → Is S.the-row r (v ∷ []) → Promised zs r → length zs ≡ length ys
         → ent 𝓤 (⋆ 𝓤 H A (‵ (flft μ p₀) ∷ ‵ (flft κ q) ∷ ‵ (flft λ′ q′) ∷ ‵ (finally u8 γ′ zs) ∷ ‵ Own ∷ ‵ OwnTable ∷ [])) (Post v)
@@ -195,7 +197,8 @@ module _ {M : Type 1} (𝓤 : URA M) (H : Heap 𝓤) (A : Atoms 𝓤) (W : Given
           land ! (from ! (stop !)) (init ! 16 refl (uint-lawful 𝓤 H A W w8 .typed k _ is-k .0)) $ rewrite ! 16 (λ (z : Val). ‵ (fat fullShare byte l₆ 0 z)) (ap only (is-k .0)) refl $
           assigns ! (addr ! (from ! (fld ! refl (hop ! (look-in ! 18 (sub ! 0 refl (whole !))) (stop !))))) (from ! (stop !)) (init ! 10 refl (tt, tt)) $
           assigns ! (agg ! (and-then ! (load ! (from ! (stop !)) (look ! 10 refl)) (and-then ! (load ! (from ! (fld ! refl (stop !))) (look-in ! 18 (sub ! 1 refl (whole !)))) (no-more !)))) (from ! (stop !)) (init ! 8 refl (tt, (tt, (record { fits = room′ .0 }, tt)))) $
-          move ! (1 ∷ 2 ∷ 3 ∷ 4 ∷ []) $ join ! $ move ! (1 ∷ 2 ∷ []) $ join ! $ use2 W (raw (Form 𝓤 H A mem run .pre (to-form k))) (goes-form k (is-k .1)) $
+          move ! (1 ∷ 2 ∷ 3 ∷ 4 ∷ []) $ join ! $ move ! (1 ∷ 2 ∷ []) $ join ! $
+          use2 W (raw (Form 𝓤 H A mem run .pre (to-form k))) (goes-form k (is-k .1) (records-number n g asked ds k low)) $
           calls-at ! fm (Form 𝓤 H A mem run) forms (to-form k)
           (and-then ! (load ! (from ! (stop !)) (look ! 23 refl)) (and-then ! (load ! (from ! (stop !)) (look ! 21 refl)) (and-then ! (load ! (from ! (stop !)) (look ! 19 refl)) (and-then ! (load ! (from ! (stop !)) (look ! 13 refl)) (and-then ! (load ! (from ! (stop !)) (look ! 5 refl)) (no-more !)))))) (λ v₂.
           use1 W (later (some (λ (u : SmallestAnswer). ((‵ (flft μ p₀) ⊛ (‵ (flft λ′ q′) ⊛ ‵ ftrue)) ⊛ ‵ (S.the-row .own u (v₂ ∷ []))) ⊛ raw (ensured 𝓤 H A form.ended (form.clauses 𝓤 H A mem run) (μ, (λ′, tt)) (n, (g, (w, (k, (y, tt))))) tt u)))) (id⊢ 𝓤 _) $ await ! tt $ pick ! (λ u.
