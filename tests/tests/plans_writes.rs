@@ -88,7 +88,7 @@ fn a_closed_pipe_whose_signal_is_ignored_takes_nothing_and_the_program_ends() {
 fn a_slow_reader_gets_every_byte() {
     let (mut reader, writer) = short_pipe();
     let slow = spawn(move || {
-        let (mut found, mut some) = (Vec::new(), [0; 1_000]);
+        let (mut found, mut some) = (Vec::<u8>::new(), [0; 1_000]);
         loop {
             sleep(Duration::from_millis(1));
             match reader.read(&mut some).expect("the pipe can be read") {

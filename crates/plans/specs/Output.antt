@@ -19,11 +19,14 @@ pub data Lines (n g : ℕ) (columns : ℕ → List ℕ) : ℕ → List ℕ → T
       → Resolution n (planOf n (n - g) (columns k)) resolution → Pattern n (planOf n (n - g) (columns k)) pattern
       → Lines n g columns (suc k) (lines ++ entry n (suc k) resolution (columns k) pattern)
 
--- what is printed for a size, where a list of 1,024 records is lent: the lowest number that it is refused by; or the header with the count of the
--- catalogue's entries, and the line of each
+-- the faults of a size where a list of 1,024 records is lent
+abbrev pub printedFaults : ℕ → ℕ → ℕ → ℕ → Type 0
+printedFaults n g r = catalogueFaults n g r (λ k. k ≤ 1024)
+
+-- what is printed for a size: the lowest number that it is refused by; or the header with the count of the catalogue's entries, and the line of each
 pub data SizeOutput (n g r : ℕ) : List ℕ → Type 0 where
-  refusal : (number : ℕ) → 0 < number → Lowest (catalogueFaults n g r (λ k. k ≤ 1024)) number → SizeOutput n g r (refused number)
-  listing : (count : ℕ) (columns : ℕ → List ℕ) (lines : List ℕ) → Lowest (catalogueFaults n g r (λ k. k ≤ 1024)) 0
+  refusal : (number : ℕ) → 0 < number → Lowest (printedFaults n g r) number → SizeOutput n g r (refused number)
+  listing : (count : ℕ) (columns : ℕ → List ℕ) (lines : List ℕ) → Lowest (printedFaults n g r) 0
       → Catalogue n (n - g) r count columns → Lines n g columns count lines → SizeOutput n g r (headerLine n g r count ++ lines)
 
 -- what is printed for a line

@@ -3,19 +3,15 @@ use mathlib.Core.Path.{_≡_, refl, sym, ap, ap₂, subst, _∙_}
 use mathlib.Core.Logic.{by-cases}
 use mathlib.Core.List.{List, [], _∷_, _++_}
 use Prim.Native.Nat.{ℕ, zero, suc, _+_, _-_, _≤_, _<_}
-use native.Mathlib.Nat.{le-of-suc-le-suc, not-suc-le-zero}
 use native.Mathlib.Decide.{decLe}
 use native.Mathlib.Omega.{arith}
 use lib.ListN.{length, getD, take}
 use lib.Seq.{take-all, length-take-le}
-use Rattle.regular.specs.Runs.{Agree}
 use Rattle.regular.specs.Columns.{planOf}
 use Rattle.regular.specs.Pattern.{Pattern, Resolution, ofLength}
 use Rattle.regular.specs.Book.{each}
-use Rattle.regular.specs.Refusals.{Lowest}
 use Rattle.regular.specs.RefusalLaws.{lowest-unique}
 use Rattle.regular.specs.Smallest.{Equal}
-use Rattle.regular.specs.Catalogues.{catalogueFaults}
 use Rattle.standard.specs.Runs.{plan-cols}
 use Rattle.words.specs.Switches.{agree-sym, pattern-agree, resolution-agree}
 use Rattle.counts.specs.Patterns.{pattern-unique}
@@ -23,7 +19,7 @@ use Rattle.counts.specs.Resolutions.{resolution-unique}
 use Rattle.catalogue_laws.specs.Demand.{catalogue-unique}
 use Rattle.plans.specs.Lines.{Digit, Number, one, two, SizeLine}
 use Rattle.plans.specs.Text.{decimal, next, columnsText, countsText, columnsWord, patternWord, newline, res, headerLine, entry, refused}
-use Rattle.plans.specs.Output.{Lines, SizeOutput, Output}
+use Rattle.plans.specs.Output.{Lines, printedFaults, SizeOutput, Output}
 
 -- a line gives one size
 digit-same : {l : List ℕ} {p d e : ℕ} → Digit l p d → Digit l p e → d ≡ e
@@ -75,15 +71,19 @@ module _ (n m place : ℕ) (c d : List ℕ) (same : Equal n c d) (i j : ℕ) (p 
       ∙ ap (λ (v : List ℕ). (decimal place ++ res ++ next j ++ columnsWord ++ v) ++ patternWord ++ countsText n p ++ newline) t
       ∙ ap (λ (v : List ℕ). (decimal place ++ res ++ next j ++ columnsWord ++ columnsText n d) ++ patternWord ++ v ++ newline) u
 
-lines-unique : (n g : ℕ) (c d : ℕ → List ℕ) (k : ℕ) (a b : List ℕ) → ((i : ℕ) → i < k → Equal n (c i) (d i)) → Lines n g c k a → Lines n g d k b → a ≡ b
+lines-unique : (n g : ℕ) (c d : ℕ → List ℕ) (k : ℕ) (a b : List ℕ) → ((i : ℕ) → i < k → Equal n (c i) (d i))
+    → Lines n g c k a → Lines n g d k b → a ≡ b
 lines-unique n g c d zero a b same Lines.none Lines.none = refl
 lines-unique n g c d (suc k) a b same (Lines.more j s i p u x y) (Lines.more l t h q v z w) =
-    ap₂ _++_ (lines-unique n g c d k s t (λ f e. same f (omega arith)) u v) (entry-unique n (n - g) (suc k) (c k) (d k) (same k (omega arith)) i h p q x z y w)
+    ap₂ _++_ (lines-unique n g c d k s t (λ f e. same f (omega arith)) u v)
+    (entry-unique n (n - g) (suc k) (c k) (d k) (same k (omega arith)) i h p q x z y w)
 
 size-output-unique : (n g r : ℕ) (a b : List ℕ) → SizeOutput n g r a → SizeOutput n g r b → a ≡ b
-size-output-unique n g r a b (SizeOutput.refusal i h x) (SizeOutput.refusal j l y) = ap (λ (k : ℕ). refused k) (lowest-unique (catalogueFaults n g r (λ k. k ≤ 1024)) i j x y)
-size-output-unique n g r a b (SizeOutput.refusal i h x) (SizeOutput.listing k c t y z w) = absurd (omega (arith, lowest-unique (catalogueFaults n g r (λ k. k ≤ 1024)) i 0 x y, h))
-size-output-unique n g r a b (SizeOutput.listing k c t y z w) (SizeOutput.refusal i h x) = absurd (omega (arith, lowest-unique (catalogueFaults n g r (λ k. k ≤ 1024)) i 0 x y, h))
+size-output-unique n g r a b (SizeOutput.refusal i h x) (SizeOutput.refusal j l y) = ap (λ (k : ℕ). refused k) (lowest-unique (printedFaults n g r) i j x y)
+size-output-unique n g r a b (SizeOutput.refusal i h x) (SizeOutput.listing k c t y z w) =
+    absurd (omega (arith, lowest-unique (printedFaults n g r) i 0 x y, h))
+size-output-unique n g r a b (SizeOutput.listing k c t y z w) (SizeOutput.refusal i h x) =
+    absurd (omega (arith, lowest-unique (printedFaults n g r) i 0 x y, h))
 size-output-unique n g r a b (SizeOutput.listing k c s x y z) (SizeOutput.listing l d t u v w) =
     let e = catalogue-unique n (n - g) r k l c d y v in
     ap (λ (j : ℕ). headerLine n g r j ++ s) (e .0)
