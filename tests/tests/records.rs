@@ -244,3 +244,23 @@ fn a_used_place_past_n_is_refused_under_5() {
         assert!(compare_calls(&calls).iter().all(|answer| answer.1 == 5));
     }
 }
+
+/// The other arguments' number, 0 to 8, with a plan that is accepted and plans that are refused under 4 to 7, and a lent list that is long enough
+/// or one place too short, which is 8.
+#[test]
+fn the_lowest_of_the_plans_number_the_other_arguments_and_the_lent_lists_is_answered() {
+    let refused =
+        [(0, vec![1, 2, 4, 7, 8]), (4, vec![1, 2, 4, 7]), (5, vec![1, 2, 4, 7, 16]), (6, vec![1, 2, 4, 7, 3]), (7, vec![1, 2, 4, 8, 8])];
+    let mut calls = Vec::new();
+    let mut expected = Vec::new();
+    for (own, columns) in &refused {
+        for other in 0..=8 {
+            for (k, lent) in [(5, 0), (4, 8)] {
+                calls.push(Call { which: FORM_OF_DESIGN, n: 5, g: 1, k, list: [record(4, columns), vec![other]].concat() });
+                expected.push([*own, other, lent].into_iter().filter(|&number| number != 0).min().unwrap_or(0));
+            }
+        }
+    }
+    let answers: Vec<u32> = compare_calls(&calls).into_iter().map(|answer| answer.1).collect();
+    assert_eq!(answers, expected);
+}
