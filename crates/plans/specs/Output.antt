@@ -34,6 +34,10 @@ pub data Output (line : List ℕ) : List ℕ → Type 0 where
   no-size : ((n g r : ℕ) → SizeLine line n g r → ⊥) → Output line notASize
   size : (n g r : ℕ) (text : List ℕ) → SizeLine line n g r → SizeOutput n g r text → Output line text
 
+-- how many bytes of a line decide what is printed for it, the line being as long (`first-nine`)
+abbrev pub lineRoom : ℕ
+lineRoom = 9
+
 -- the columns of the records of a list
 abbrev pub columnsAt : List Design → ℕ → List ℕ
 columnsAt list i = getD list i blank .columns

@@ -1,4 +1,4 @@
--- What is printed for a line is one list of bytes (`output-unique`), and its first nine bytes decide it (`first-nine`).
+-- What is printed for a line is one list of bytes (`output-unique`), and its first nine bytes, or more of them, decide it (`first-nine`).
 use mathlib.Core.Path.{_≡_, refl, sym, ap, ap₂, subst, _∙_}
 use mathlib.Core.Logic.{by-cases}
 use mathlib.Core.List.{List, [], _∷_, _++_}
@@ -19,7 +19,7 @@ use Rattle.counts.specs.Resolutions.{resolution-unique}
 use Rattle.catalogue_laws.specs.Demand.{catalogue-unique}
 use Rattle.plans.specs.Lines.{Digit, Number, one, two, SizeLine}
 use Rattle.plans.specs.Text.{decimal, next, columnsText, countsText, columnsWord, patternWord, newline, res, headerLine, entry, refused}
-use Rattle.plans.specs.Output.{Lines, printedFaults, SizeOutput, Output}
+use Rattle.plans.specs.Output.{Lines, printedFaults, SizeOutput, Output, lineRoom}
 
 -- a line gives one size
 digit-same : {l : List ℕ} {p d e : ℕ} → Digit l p d → Digit l p e → d ≡ e
@@ -110,8 +110,8 @@ long-output : (line a t : List ℕ) → 8 < length line → 8 < length a → Out
 long-output line a t h k (Output.no-size x) = Output.no-size (λ n g r s. omega (arith, size-short s, h))
 long-output line a t h k (Output.size n g r u s o) = absurd (omega (arith, size-short s, k))
 
-pub first-nine : (line t : List ℕ) → Output (take 9 line) t → Output line t
-first-nine line t o =
-    by-cases (decLe (length line) 9)
-    (λ h. subst (λ (l : List ℕ). Output l t) (take-all 9 line h) o)
-    (λ h. long-output line (take 9 line) t (omega (arith, h)) (omega (arith, length-take-le 9 line (omega (arith, h)))) o)
+pub first-nine : (k : ℕ) (line t : List ℕ) → lineRoom ≤ k → Output (take k line) t → Output line t
+first-nine k line t most o =
+    by-cases (decLe (length line) k)
+    (λ h. subst (λ (l : List ℕ). Output l t) (take-all k line h) o)
+    (λ h. long-output line (take k line) t (omega (arith, h, most)) (omega (arith, most, length-take-le k line (omega (arith, h)))) o)

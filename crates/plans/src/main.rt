@@ -8,7 +8,7 @@ ghost use Rattle.regular.specs.Designs.{blank};
 ghost use Rattle.regular.specs.Catalogues.{ListsDesigns};
 ghost use Rattle.plans.specs.Lines.{DigitIs, SpaceIs, Part, Parsed};
 ghost use Rattle.plans.specs.Listed.{AllListable};
-ghost use Rattle.plans.specs.Output.{EntryLines, SizeOutput, Output};
+ghost use Rattle.plans.specs.Output.{EntryLines, SizeOutput, Output, lineRoom};
 ghost use Rattle.plans.specs.Text.{headerMost, outputRoom};
 use bits::wide_byte;
 use libc::STDIN_FILENO;
@@ -17,6 +17,9 @@ use regular::CatalogueAnswer;
 use regular::Design;
 
 mod text;
+
+// The bytes of a line that decide what is printed for it (`lineRoom`).
+const LINE: usize = 9;
 
 // The bytes that suffice for any output (`outputRoom`).
 const OUTPUT: usize = 102 + 1024 * 177 + 15;
@@ -62,8 +65,10 @@ fn skip_line() {
     }
 }
 
-// The bytes up to the line's end go to the start of line, as many as fit; the others are read and dropped. Says how many.
+// The bytes up to the line's end go to the start of line, as many as fit; the others are read and dropped. Says how many. What fits has to decide
+// what is printed.
 fn read_line(line: &mut [u8]) -> usize
+    requires { ⌜ lineRoom ≤ length (now line) ⌝ }
     ensures { λ r. ⌜ Counts r (now (line .exit)) ⌝ }
 {
     let mut n: usize = 0;
@@ -268,7 +273,7 @@ fn write_output(line: &[u8], out: &[u8])
 }
 
 fn main() {
-    let mut line = [0u8; 9];
+    let mut line = [0u8; LINE];
     let n = read_line(&mut line);
     let mut out = [0u8; OUTPUT];
     let k = output(&line[..n], &mut out);
