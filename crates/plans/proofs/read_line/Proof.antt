@@ -1,5 +1,5 @@
 -- Each turn fills one more place or ends: the count never passes the line's length. Assumes nothing.
-use Rattle.plans.proofs.Counting.{counts}
+use Rattle.printing.specs.Counting.{counts}
 use mathlib.Core.Path.{_≡_}
 use Prim.Native.Nat.{_≤_, _-_}
 use lib.ListN.{length}
