@@ -1,5 +1,6 @@
 // The lines that are printed, made in a lent list of bytes: each function adds its text from a place on and says the place after it. The lines are
-// public for what is printed as a whole. Of the bytes that a text may take, and of the room that it asks for, each function says the least that its arguments' types allow.
+// public for what is printed as a whole. Of the bytes that a text may take, and of the room that it asks for, each function says the least that its
+// arguments' types allow.
 ghost use Prim.Native.Nat.{_+_, _-_, _*_, _≤_};
 ghost use lib.ListN.{length};
 ghost use Rattle.printed_lines.specs.Text.{Adds, decimal, next, columnsText, countsText, headerLine, refused, notASize, start, entry, EntryLine, headerMost, entryMost, entryRoom};

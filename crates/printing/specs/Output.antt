@@ -43,7 +43,7 @@ pub record Printed (P : List ℕ → Type 0) (before after : List ℕ) (k : ℕ)
   pub text : P (take k after)
   pub rest : drop k after ≡ drop k before
 
--- how many bytes of a line decide what is printed for it, the line being as long (`first-nine`)
+-- the bytes of a line that decide what is printed for it, if it has so many (`first-nine`)
 abbrev pub lineRoom : ℕ
 lineRoom = 9
 

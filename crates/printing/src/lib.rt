@@ -1,4 +1,4 @@
-// What the program `plans` prints for a line, all of it, in a lent list of bytes.
+// What the program `plans` prints for a line, all of it, in a lent list of bytes. Public for the program.
 ghost use mathlib.Core.Path.{_≡_};
 ghost use Prim.Native.Nat.{_≤_};
 ghost use lib.ListN.{length, replicate};
@@ -80,7 +80,7 @@ fn size_output(n: usize, g: usize, r: usize, out: &mut [u8]) -> usize
     add_entries(n, g, count, list, end, out)
 }
 
-// What is printed for a line: all of it, at the start of out. Says how many bytes. Called by the program.
+// What is printed for a line: all of it, at the start of out. Says how many bytes.
 pub fn output(line: &[u8], out: &mut [u8]) -> usize
     requires { ⌜ outputRoom ≤ length (now out) ⌝ }
     ensures { λ r. ⌜ Printed (Output (now (line .entry))) (now (out .entry)) (now (out .exit)) r ⌝ }
