@@ -5,13 +5,16 @@ use Prim.Native.Nat.{ℕ, _-_, _≤_, _<_}
 use native.Mathlib.Omega.{arith}
 use lib.ListN.{take}
 use denote.Ref.{RefT}
-use Rattle.regular.specs.Runs.{Runs, Agree}
+use Rattle.regular.specs.Runs.{Runs}
 use Rattle.regular.specs.Pattern.{Pattern, Better, LessAberration}
 use Rattle.regular.specs.Columns.{planOf}
 use Rattle.regular.specs.Refusals.{either, Lowest, Chooses, HandsBack}
-use Rattle.words.specs.Switches.{agree-sym, pattern-agree}
+use Rattle.regular.specs.Given.{Given}
+use Rattle.regular.specs.Measures.{ChoosesLess}
+use Rattle.regular.specs.declared.Admitted.{Admitted}
 use Rattle.counts.specs.Patterns.{pattern-unique}
 use Rattle.admission.specs.Admission.{Admission, Ready, ready}
+use Rattle.measures.specs.Measured.{pattern-given, pattern-columns}
 use Rattle.regular.specs.RefusalLaws.{lowest-unique, Lower, lowest-lower, lower-none}
 
 -- the better of two patterns is better in every pair of lists that hold them
@@ -30,39 +33,36 @@ better-same n m s t p q u v h tp sq tu sv b =
 pub less-better : (n m : ℕ) (t s : Runs) (p q : List ℕ) → m ≤ n → Pattern n t p → Pattern n s q → LessAberration n m t s → Better m p q
 less-better n m t s p q h tp sq l = better-same n m s t p q (l .p) (l .q) h tp sq (l .of-t) (l .of-s) (l .better)
 
--- plans with the same runs
-less-agree : (n m : ℕ) (t s u v : Runs) → Agree t u → Agree s v → LessAberration n m t s → LessAberration n m u v
-less-agree n m t s u v a b l =
-    record { p = l .p; q = l .q; of-t = pattern-agree n t u a (l .p) (l .of-t); of-s = pattern-agree n s v b (l .q) (l .of-s); better = l .better }
+-- the lists of two admitted plans p and q, of which one is handed back; r is the call's number
+module _ {n g : ℕ} {p q : Given} {a b : Admitted} {r : ℕ} (pa : Admission n g p a) (qb : Admission n g q b) (l : Lower (a .number) (b .number) r) where
+  abbrev Columns : Type 0
+  Columns = LessAberration n (n - g) (planOf n (n - g) (b .columns)) (planOf n (n - g) (a .columns))
 
--- the lists of two admitted plans s and t, of which one is handed back; r is the call's number
-module _ {F H : ℕ → Type 0} {n g : ℕ} {s t : Runs} {x y : ℕ} {a b : List ℕ} {r : ℕ} (p : Admission F n g s x a) (q : Admission H n g t y b) (l : Lower x y r) where
-  low : Lowest (either F H) r
-  low = lowest-lower F H x y r (p .lowest) (q .lowest) l
+  low : Lowest (either (p .faults) (q .faults)) r
+  low = lowest-lower (p .faults) (q .faults) (a .number) (b .number) r (pa .lowest) (qb .lowest) l
 
-  pub both-ready : r ≡ 0 → Ready n g a × Ready n g b
-  both-ready e = let z = lower-none x y r l e in (ready p (z .0), ready q (z .1))
+  pub both-ready : r ≡ 0 → Ready n g (a .columns) × Ready n g (b .columns)
+  both-ready e = let z = lower-none (a .number) (b .number) r l e in (ready pa (z .0), ready qb (z .1))
 
-  into : r ≡ 0 → LessAberration n (n - g) (planOf n (n - g) b) (planOf n (n - g) a) → LessAberration n (n - g) t s
-  into e =
-      let z = lower-none x y r l e in
-      less-agree n (n - g) (planOf n (n - g) b) (planOf n (n - g) a) t s
-      (agree-sym t (planOf n (n - g) b) (q .standard (z .1) .plan)) (agree-sym s (planOf n (n - g) a) (p .standard (z .0) .plan))
+  into : r ≡ 0 → Columns → LessAberration n (n - g) (q .plan) (p .plan)
+  into e k =
+      let z = lower-none (a .number) (b .number) r l e in
+      record { p = k .p; q = k .q; of-t = pattern-given qb (z .1) (k .p) (k .of-t); of-s = pattern-given pa (z .0) (k .q) (k .of-s); better = k .better }
 
-  onto : r ≡ 0 → LessAberration n (n - g) t s → LessAberration n (n - g) (planOf n (n - g) b) (planOf n (n - g) a)
-  onto e =
-      let z = lower-none x y r l e in
-      less-agree n (n - g) t s (planOf n (n - g) b) (planOf n (n - g) a) (q .standard (z .1) .plan) (p .standard (z .0) .plan)
+  onto : r ≡ 0 → LessAberration n (n - g) (q .plan) (p .plan) → Columns
+  onto e k =
+      let z = lower-none (a .number) (b .number) r l e in
+      record { p = k .p; q = k .q; of-t = pattern-columns qb (z .1) (k .p) (k .of-t); of-s = pattern-columns pa (z .0) (k .q) (k .of-s); better = k .better }
 
   -- one is refused
-  pub chooses-none : (r ≡ 0 → ⊥) → Chooses (either F H) (LessAberration n (n - g) t s) 0
+  pub chooses-none : (r ≡ 0 → ⊥) → ChoosesLess n (n - g) p q 0
   chooses-none some = Chooses.refused r (omega (arith, some)) low
 
-  pub chooses-second : r ≡ 0 → LessAberration n (n - g) (planOf n (n - g) b) (planOf n (n - g) a) → Chooses (either F H) (LessAberration n (n - g) t s) 2
-  chooses-second e less = Chooses.second (subst (Lowest (either F H)) e low) (into e less)
+  pub chooses-second : r ≡ 0 → LessAberration n (n - g) (planOf n (n - g) (b .columns)) (planOf n (n - g) (a .columns)) → ChoosesLess n (n - g) p q 2
+  chooses-second e less = Chooses.second (subst (Lowest (either (p .faults) (q .faults))) e low) (into e less)
 
-  pub chooses-first : r ≡ 0 → (LessAberration n (n - g) (planOf n (n - g) b) (planOf n (n - g) a) → ⊥) → Chooses (either F H) (LessAberration n (n - g) t s) 1
-  chooses-first e none = Chooses.first (subst (Lowest (either F H)) e low) (λ less. none (onto e less))
+  pub chooses-first : r ≡ 0 → (LessAberration n (n - g) (planOf n (n - g) (b .columns)) (planOf n (n - g) (a .columns)) → ⊥) → ChoosesLess n (n - g) p q 1
+  chooses-first e none = Chooses.first (subst (Lowest (either (p .faults) (q .faults))) e low) (λ less. none (onto e less))
 
 -- what is accepted is not refused
 accepted : {fault : ℕ → Type 0} → Lowest fault 0 → (k : ℕ) → 0 < k → Lowest fault k → ⊥

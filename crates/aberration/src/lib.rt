@@ -2,10 +2,11 @@
 ghost use mathlib.Core.Path.{_≡_};
 ghost use mathlib.Core.Bool.{true, false};
 ghost use Prim.Native.Nat.{_-_};
-ghost use Rattle.regular.specs.Words.{Generated};
 ghost use Rattle.regular.specs.Columns.{planOf};
 ghost use Rattle.regular.specs.Pattern.{LessAberration};
-ghost use Rattle.regular.specs.Refusals.{wordsFaults, either, Lowest, Chooses, HandsBack};
+ghost use Rattle.regular.specs.Refusals.{either, Lowest};
+ghost use Rattle.regular.specs.Given.{ofWords};
+ghost use Rattle.regular.specs.Measures.{ChoosesLess, HandsBackLess};
 ghost use Rattle.admission.specs.Admission.{Ready};
 use admission::lower_of;
 
@@ -23,7 +24,7 @@ fn second_less(n: usize, g: usize, first: [u8; 16], second: [u8; 16]) -> bool
 
 // The refusal's number, 0 if both lists are accepted.
 pub fn aberration_refusal(n: usize, g: usize, first: &[u16], second: &[u16]) -> u8
-    ensures { λ r. ⌜ Lowest (either (wordsFaults n g (now (first .entry))) (wordsFaults n g (now (second .entry)))) r ⌝ }
+    ensures { λ r. ⌜ Lowest (either (ofWords n g (now (first .entry)) .faults) (ofWords n g (now (second .entry)) .faults)) r ⌝ }
 {
     let a = admission::admit_words(n, g, first);
     let b = admission::admit_words(n, g, second);
@@ -32,8 +33,7 @@ pub fn aberration_refusal(n: usize, g: usize, first: &[u16], second: &[u16]) -> 
 
 // Which list's plan has less aberration: 2 the second, 1 the first, also if neither has; 0 if one is refused.
 pub fn choice(n: usize, g: usize, first: &[u16], second: &[u16]) -> u8
-    ensures { λ r. ⌜ Chooses (either (wordsFaults n g (now (first .entry))) (wordsFaults n g (now (second .entry))))
-        (LessAberration n (n - g) (Generated n g (now (second .entry))) (Generated n g (now (first .entry)))) r ⌝ }
+    ensures { λ r. ⌜ ChoosesLess n (n - g) (ofWords n g (now (first .entry))) (ofWords n g (now (second .entry))) r ⌝ }
 {
     let a = admission::admit_words(n, g, first);
     let b = admission::admit_words(n, g, second);
@@ -50,9 +50,7 @@ pub fn choice(n: usize, g: usize, first: &[u16], second: &[u16]) -> u8
 
 // The list whose plan has less aberration, the first if neither has; the empty start of the first if one is refused.
 pub fn less_aberration<'a>(n: usize, g: usize, first: &'a [u16], second: &'a [u16]) -> &'a [u16]
-    ensures { λ r. ⌜ HandsBack (either (wordsFaults n g (now (first .entry))) (wordsFaults n g (now (second .entry))))
-        (LessAberration n (n - g) (Generated n g (now (second .entry))) (Generated n g (now (first .entry))))
-        (first .entry) (second .entry) r ⌝ }
+    ensures { λ r. ⌜ HandsBackLess n (n - g) (ofWords n g (now (first .entry))) (ofWords n g (now (second .entry))) (first .entry) (second .entry) r ⌝ }
 {
     let which = choice(n, g, first, second);
     if which == 0 {

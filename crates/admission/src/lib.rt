@@ -1,14 +1,12 @@
-// Plans in any of their forms are admitted here: refused by the lowest number that applies, or brought into standard columns. Public for the
-// calls on plans, which all begin so.
+// Plans in any of their forms are admitted here: refused by the lowest number that applies, or brought into standard columns and the run that they
+// start from. Public for the calls on plans, which all begin so.
 ghost use mathlib.Core.Path.{_≡_};
 ghost use mathlib.Core.Bool.{true, false};
-ghost use Prim.Native.Nat.{ℕ, _-_, _≤_, _<_};
+ghost use Prim.Native.Nat.{ℕ, _≤_, _<_};
 ghost use lib.ListN.{length, getD, replicate};
 ghost use Rattle.regular.specs.Sizes.{Size, Sized};
-ghost use Rattle.regular.specs.Runs.{runsOf, switched};
-ghost use Rattle.regular.specs.Words.{Generated};
-ghost use Rattle.regular.specs.Columns.{planOf};
-ghost use Rattle.regular.specs.Refusals.{SizeFault, sizeFaults, wordsFaults, runsFaults, designFaults, columnsFaults, Lowest};
+ghost use Rattle.regular.specs.Refusals.{SizeFault, sizeFaults, Lowest};
+ghost use Rattle.regular.specs.Given.{ofWords, ofRuns, ofDesign, ofColumns};
 ghost use Rattle.regular.specs.RefusalLaws.{Lower};
 ghost use Rattle.admission.specs.Admission.{Admission, Columned};
 use bits::power;
@@ -70,17 +68,18 @@ pub fn lower_of(a: u8, b: u8) -> u8
 
 // The answer of a refusal.
 fn refused(number: u8) -> Admitted
-    ensures { λ r. ⌜ r ≡ record { number = number; columns = replicate 16 0 } ⌝ }
+    ensures { λ r. ⌜ r ≡ record { number = number; run = 0; columns = replicate 16 0 } ⌝ }
 {
     Admitted {
         number,
+        run: 0,
         columns: [0u8; 16],
     }
 }
 
 // A list of generators.
 pub fn admit_words(n: usize, g: usize, words: &[u16]) -> Admitted
-    ensures { λ r. ⌜ Admission (wordsFaults n g (now (words .entry))) n g (Generated n g (now (words .entry))) (r .number) (r .columns) ⌝ }
+    ensures { λ r. ⌜ Admission n g (ofWords n g (now (words .entry))) r ⌝ }
 {
     let number = size_number(n, g);
     if number != 0 {
@@ -100,12 +99,16 @@ pub fn admit_words(n: usize, g: usize, words: &[u16]) -> Admitted
     if !column_forms::plain(n, columns) {
         return refused(7);
     }
-    Admitted { number: 0, columns }
+    Admitted {
+        number: 0,
+        run: 0,
+        columns,
+    }
 }
 
 // A run table.
 pub fn admit_runs(n: usize, g: usize, runs: &[u16]) -> Admitted
-    ensures { λ r. ⌜ Admission (runsFaults n g (now (runs .entry))) n g (switched (getD (now (runs .entry)) 0 0) (runsOf (now (runs .entry)))) (r .number) (r .columns) ⌝ }
+    ensures { λ r. ⌜ Admission n g (ofRuns n g (now (runs .entry))) r ⌝ }
 {
     let number = size_number(n, g);
     if number != 0 {
@@ -126,7 +129,12 @@ pub fn admit_runs(n: usize, g: usize, runs: &[u16]) -> Admitted
     if !column_forms::plain(n, columns) {
         return refused(7);
     }
-    Admitted { number: 0, columns }
+    let run = runs[0];
+    Admitted {
+        number: 0,
+        run,
+        columns,
+    }
 }
 
 // Whether the first n columns are below `end`.
@@ -147,7 +155,7 @@ fn columns_below(n: usize, end: usize, columns: [u8; 16]) -> bool
 // Columns of sizes in bounds: 5, 6, 7, or their plan's standard columns.
 fn admit_array(n: usize, m: usize, columns: [u8; 16]) -> Admitted
     requires { ⌜ (n ≤ 16) × (m ≤ 7) ⌝ }
-    ensures { λ r. ⌜ Columned n m columns (r .number) (r .columns) ⌝ }
+    ensures { λ r. ⌜ Columned n m columns r ⌝ }
 {
     if !columns_below(n, power(m), columns) {
         return refused(5);
@@ -162,6 +170,7 @@ fn admit_array(n: usize, m: usize, columns: [u8; 16]) -> Admitted
     }
     Admitted {
         number: 0,
+        run: 0,
         columns: standard,
     }
 }
@@ -182,7 +191,7 @@ fn unused_zero(n: usize, columns: [u8; 16]) -> bool
 
 // A design record.
 pub fn admit_design(n: usize, g: usize, design: Design) -> Admitted
-    ensures { λ r. ⌜ Admission (designFaults n g design) n g (planOf n (n - g) (design .columns)) (r .number) (r .columns) ⌝ }
+    ensures { λ r. ⌜ Admission n g (ofDesign n g design) r ⌝ }
 {
     let number = size_number(n, g);
     if number != 0 {
@@ -218,7 +227,7 @@ pub fn array_of(list: &[u8]) -> [u8; 16]
 
 // A list of columns.
 pub fn admit_columns(n: usize, g: usize, list: &[u8]) -> Admitted
-    ensures { λ r. ⌜ Admission (columnsFaults n g (now (list .entry))) n g (planOf n (n - g) (now (list .entry))) (r .number) (r .columns) ⌝ }
+    ensures { λ r. ⌜ Admission n g (ofColumns n g (now (list .entry))) r ⌝ }
 {
     let number = size_number(n, g);
     if number != 0 {

@@ -8,35 +8,35 @@ use native.Mathlib.Nat.{suc-mul, mul-le-mul-right}
 use native.Mathlib.Numerals.{add-one}
 use native.Mathlib.Omega.{arith}
 use lib.ListN.{length, getD, take, drop}
-use Rattle.regular.specs.Runs.{Runs}
 use Rattle.regular.specs.Columns.{planOf}
 use Rattle.regular.specs.Pattern.{Pattern}
 use Rattle.regular.specs.Refusals.{Lowest, columnsFaults}
 use Rattle.regular.specs.RefusalLaws.{lowest-unique}
 use Rattle.regular.specs.PlanLists.{planAt, HasPlan, wantedPlansFaults}
-use Rattle.words.specs.Switches.{agree-sym, pattern-agree}
+use Rattle.regular.specs.Given.{Given, ofColumns}
+use Rattle.regular.specs.declared.Admitted.{Admitted}
 use Rattle.admission.specs.Admission.{Admission, Ready, ready}
+use Rattle.measures.specs.Measured.{pattern-given}
 use Rattle.plan_lists.specs.Accepted.{AcceptedPlans, plans-accepted}
 use Rattle.regular.specs.Book.{bookLength, headerLength}
 use Rattle.book.specs.Writing.{entryLength, PutEntry, Written, PlansWritten}
 use Rattle.book.specs.WritingLaws.{columns-same, written-none, written-more, written-size, entry-room}
 
 -- a plan without faults is admitted
-admitted-none : {fault : ℕ → Type 0} {n g number : ℕ} {s : Runs} {a : List ℕ} → Lowest fault 0 → Admission fault n g s number a → number ≡ 0
-admitted-none {fault} {n} {g} {number} l ad = lowest-unique fault number 0 (ad .lowest) l
+module _ {n g : ℕ} {p : Given} {x : Admitted} (l : Lowest (p .faults) 0) (ad : Admission n g p x) where
+  admitted-none : x .number ≡ 0
+  admitted-none = lowest-unique (p .faults) (x .number) 0 (ad .lowest) l
 
-pub admitted-ready : {fault : ℕ → Type 0} {n g number : ℕ} {s : Runs} {a : List ℕ} → Lowest fault 0 → Admission fault n g s number a → Ready n g a
-admitted-ready l ad = ready ad (admitted-none l ad)
+  pub admitted-ready : Ready n g (x .columns)
+  admitted-ready = ready ad admitted-none
 
--- the pattern of its standard columns is its own
-admitted-pattern : {fault : ℕ → Type 0} {n g number : ℕ} {s : Runs} {a : List ℕ} → Lowest fault 0 → Admission fault n g s number a
-    → (p : List ℕ) → Pattern n (planOf n (n - g) a) p → Pattern n s p
-admitted-pattern {fault} {n} {g} {number} {s} {a} l ad p = pattern-agree n (planOf n (n - g) a) s (agree-sym s (planOf n (n - g) a) (ad .standard (admitted-none l ad) .plan)) p
+  -- the pattern of its standard columns is its own
+  admitted-pattern : (c : List ℕ) → Pattern n (planOf n (n - g) (x .columns)) c → Pattern n (p .plan) c
+  admitted-pattern = pattern-given ad admitted-none
 
--- the entry of a plan by its standard columns is the plan's
-pub entry-of : {fault : ℕ → Type 0} {n g number : ℕ} {s : Runs} {a : List ℕ} → Lowest fault 0 → Admission fault n g s number a
-    → {c v w : List ℕ} {at to : ℕ} → PutEntry n (planOf n (n - g) a) c at v w to → PutEntry n s c at v w to
-entry-of l ad p = record { counts = p .counts; pattern = admitted-pattern l ad (p .counts) (p .pattern); bytes = p .bytes; next = p .next }
+  -- the entry of a plan by its standard columns is the plan's
+  pub entry-of : {c v w : List ℕ} {at to : ℕ} → PutEntry n (planOf n (n - g) (x .columns)) c at v w to → PutEntry n (p .plan) c at v w to
+  entry-of e = record { counts = e .counts; pattern = admitted-pattern (e .counts) (e .pattern); bytes = e .bytes; next = e .next }
 
 -- the sizes of a list that is accepted
 pub plans-bounds : (n g r number : ℕ) (plans : List ℕ) → Lowest (wantedPlansFaults n g r plans) number → number ≡ 0 → (n ≤ 16) × (g ≤ 16) × (r ≤ 16)
@@ -70,9 +70,9 @@ module _ (n g r : ℕ) (plans : List ℕ) (ok : AcceptedPlans n g r plans) (v : 
       pub plans-lowest : Lowest (columnsFaults n g part) 0
       plans-lowest = subst (λ (c : List ℕ). Lowest (columnsFaults n g c) 0) (sym is-plan) (ok .plan (x .count) (there (x .count) inside))
 
-      pub plans-more : {c a w' : List ℕ} {number to : ℕ} → ((f : ℕ) → getD c f 0 ≡ getD part f 0) → Admission (columnsFaults n g part) n g (planOf n (n - g) part) number a
-          → PutEntry n (planOf n (n - g) a) c at w w' to → PlansWritten n g plans (base + n) v w' to
-      plans-more {c} {a} {w'} {number} {to} same ad put = record {
+      pub plans-more : {c w' : List ℕ} {a : Admitted} {to : ℕ} → ((f : ℕ) → getD c f 0 ≡ getD part f 0) → Admission n g (ofColumns n g part) a
+          → PutEntry n (planOf n (n - g) (a .columns)) c at w w' to → PlansWritten n g plans (base + n) v w' to
+      plans-more {c} {w'} {a} {to} same ad put = record {
         count = x .count + 1;
         place = omega (arith, x .place, suc-mul (x .count) n, ap (λ (k : ℕ). k * n) (add-one (x .count)));
         written = written-more (x .written) (columns-same n c (planAt n plans (x .count)) (λ f _. same f ∙ ap (λ (l : List ℕ). getD l f 0) is-plan))

@@ -1,5 +1,5 @@
 -- What is made of an admitted plan, in the terms of its standard columns, and that this is what the calls promise.
-use Prim.Native.Nat.{ℕ, _-_, _^_, _≤_, _<_}
+use Prim.Native.Nat.{ℕ, _-_, _^_, _<_}
 use mathlib.Core.Path.{_≡_, refl, sym, subst, _∙_}
 use mathlib.Core.List.{List}
 use native.Mathlib.Omega.{arith}
@@ -16,6 +16,9 @@ use Rattle.standard.specs.Runs.{run-cols}
 use Rattle.words.specs.WordList.{wordsTo}
 use Rattle.words.specs.ReducedUnique.{generators-reduced}
 use Rattle.lent.specs.Lends.{Lends, lends-means, lends-fills}
+use Rattle.regular.specs.Given.{Given}
+use Rattle.regular.specs.declared.Admitted.{Admitted}
+use Rattle.standard.specs.Form.{StandardFor}
 use Rattle.admission.specs.Admission.{Admission}
 
 -- the record of standard columns
@@ -34,7 +37,17 @@ pub record RunsMade (n m number : ℕ) (c : List ℕ) (r : ℕ) (t : List ℕ) :
   pub refused : 0 < number → t ≡ replicate 128 0
   pub made : number ≡ 0 → RunTable n m c t
 
-module _ (fault : ℕ → Type 0) (n g : ℕ) (s : Runs) (number : ℕ) (a : List ℕ) (ad : Admission fault n g s number a) where
+-- an admitted plan, and the plan s that has its standard columns
+module _ {n g : ℕ} {p : Given} {x : Admitted} (ad : Admission n g p x) (s : Runs) (standard : x .number ≡ 0 → StandardFor n (n - g) s (x .columns)) where
+  abbrev number : ℕ
+  number = x .number
+
+  abbrev a : List ℕ
+  a = x .columns
+
+  abbrev fault : ℕ → Type 0
+  fault = p .faults
+
   -- a design record
   pub design-gives : (r : ℕ) (d : Design) → DesignMade n (n - g) number a r d → Gives fault (Holds n (n - g) (StandardColumns n (n - g) s)) blank r d
   design-gives r d h =
@@ -46,30 +59,30 @@ module _ (fault : ℕ → Type 0) (n g : ℕ) (s : Runs) (number : ℕ) (a : Lis
             (record {
               factors = refl;
               basics = refl;
-              columns = form-standard n (n - g) s a (ad .standard e);
+              columns = form-standard n (n - g) s a (standard e);
               unused = λ f l _. ad .unused e f l;
             });
       })
 
   -- words, in a lent list
-  pub words-fills : ((j : ℕ) → fault j → j ≤ 7) → (ys zs : List ℕ) (r : ℕ) → Lends number g (WordsAt n g a) ys zs r
+  pub words-fills : (ys zs : List ℕ) (r : ℕ) → Lends number g (WordsAt n g a) ys zs r
       → Fills (either fault (LentFault g ys)) g (Reduced n g s) ys zs r
-  words-fills most ys zs r l =
-      lends-fills fault number g (Reduced n g s) ys zs r most (ad .lowest)
+  words-fills ys zs r l =
+      lends-fills fault number g (Reduced n g s) ys zs r (ad .most) (ad .lowest)
       (lends-means number g (WordsAt n g a) (Reduced n g s) ys zs r
       (λ e w.
       let z = ad .size e in
       let q : n - (n - g) ≡ g = omega (arith, z .less) in
-      subst (λ (k : ℕ). Reduced n k s zs) q (generators-reduced n (n - g) s a zs (ad .standard e) (λ i h. w i (omega arith))))
+      subst (λ (k : ℕ). Reduced n k s zs) q (generators-reduced n (n - g) s a zs (standard e) (λ i h. w i (omega arith))))
       l)
 
   -- columns, in a lent list
-  pub columns-fills : ((j : ℕ) → fault j → j ≤ 7) → (ys zs : List ℕ) (r : ℕ) → Lends number n (λ zs. Equal n zs a) ys zs r
+  pub columns-fills : (ys zs : List ℕ) (r : ℕ) → Lends number n (λ zs. Equal n zs a) ys zs r
       → Fills (either fault (LentFault n ys)) n (StandardColumns n (n - g) s) ys zs r
-  columns-fills most ys zs r l =
-      lends-fills fault number n (StandardColumns n (n - g) s) ys zs r most (ad .lowest)
+  columns-fills ys zs r l =
+      lends-fills fault number n (StandardColumns n (n - g) s) ys zs r (ad .most) (ad .lowest)
       (lends-means number n (λ zs. Equal n zs a) (StandardColumns n (n - g) s) ys zs r
-      (λ e w. form-standard n (n - g) s zs (standard-cols n (n - g) s a zs (ad .standard e) (λ f h. sym (w f h))))
+      (λ e w. form-standard n (n - g) s zs (standard-cols n (n - g) s a zs (standard e) (λ f h. sym (w f h))))
       l)
 
   -- the runs of standard columns: an array, or a lent list
@@ -79,27 +92,28 @@ module _ (fault : ℕ → Type 0) (n g : ℕ) (s : Runs) (number : ℕ) (a : Lis
       (record {
         number = ad .lowest;
         refused = h .refused;
-        result = λ e. record { columns = a; standard = form-standard n (n - g) s a (ad .standard e); table = h .made e };
+        result = λ e. record { columns = a; standard = form-standard n (n - g) s a (standard e); table = h .made e };
       })
 
-  pub runs-fills : ((j : ℕ) → fault j → j ≤ 7) → (ys zs : List ℕ) (r : ℕ) → Lends number (2 ^ (n - g)) (Listed n (n - g) a) ys zs r
+  pub runs-fills : (ys zs : List ℕ) (r : ℕ) → Lends number (2 ^ (n - g)) (Listed n (n - g) a) ys zs r
       → Fills (either fault (LentFault (2 ^ (n - g)) ys)) (2 ^ (n - g)) (RunsOfPlan n (n - g) Listed s) ys zs r
-  runs-fills most ys zs r l =
-      lends-fills fault number (2 ^ (n - g)) (RunsOfPlan n (n - g) Listed s) ys zs r most (ad .lowest)
+  runs-fills ys zs r l =
+      lends-fills fault number (2 ^ (n - g)) (RunsOfPlan n (n - g) Listed s) ys zs r (ad .most) (ad .lowest)
       (lends-means number (2 ^ (n - g)) (Listed n (n - g) a) (RunsOfPlan n (n - g) Listed s) ys zs r
-      (λ e w. record { columns = a; standard = form-standard n (n - g) s a (ad .standard e); table = w })
+      (λ e w. record { columns = a; standard = form-standard n (n - g) s a (standard e); table = w })
       l)
 
-  -- the runs of the columns given, of the same plan
-  pub given-gives : (c : List ℕ) (r : ℕ) (t : List ℕ) → RunsMade n (n - g) number c r t → Gives fault (RunTable n (n - g) c) (replicate 128 0) r t
+-- the runs of the columns given, of the same plan
+module _ {n g : ℕ} {p : Given} {x : Admitted} (ad : Admission n g p x) where
+  pub given-gives : (c : List ℕ) (r : ℕ) (t : List ℕ) → RunsMade n (n - g) (x .number) c r t → Gives (p .faults) (RunTable n (n - g) c) (replicate 128 0) r t
   given-gives c r t h =
-      subst (λ (k : ℕ). Gives fault (RunTable n (n - g) c) (replicate 128 0) k t) (sym (h .same))
+      subst (λ (k : ℕ). Gives (p .faults) (RunTable n (n - g) c) (replicate 128 0) k t) (sym (h .same))
       (record { number = ad .lowest; refused = h .refused; result = h .made })
 
-  pub given-fills : ((j : ℕ) → fault j → j ≤ 7) → (c d ys zs : List ℕ) (r : ℕ) → ((f : ℕ) → getD c f 0 ≡ getD d f 0) → Lends number (2 ^ (n - g)) (Listed n (n - g) c) ys zs r
-      → Fills (either fault (LentFault (2 ^ (n - g)) ys)) (2 ^ (n - g)) (Listed n (n - g) d) ys zs r
-  given-fills most c d ys zs r same l =
-      lends-fills fault number (2 ^ (n - g)) (Listed n (n - g) d) ys zs r most (ad .lowest)
-      (lends-means number (2 ^ (n - g)) (Listed n (n - g) c) (Listed n (n - g) d) ys zs r
+  pub given-fills : (c d ys zs : List ℕ) (r : ℕ) → ((f : ℕ) → getD c f 0 ≡ getD d f 0) → Lends (x .number) (2 ^ (n - g)) (Listed n (n - g) c) ys zs r
+      → Fills (either (p .faults) (LentFault (2 ^ (n - g)) ys)) (2 ^ (n - g)) (Listed n (n - g) d) ys zs r
+  given-fills c d ys zs r same l =
+      lends-fills (p .faults) (x .number) (2 ^ (n - g)) (Listed n (n - g) d) ys zs r (ad .most) (ad .lowest)
+      (lends-means (x .number) (2 ^ (n - g)) (Listed n (n - g) c) (Listed n (n - g) d) ys zs r
       (λ e w j h. w j h ∙ run-cols c d n j (λ f _. same f))
       l)

@@ -3,12 +3,12 @@ ghost use mathlib.Core.Path.{_≡_};
 ghost use Prim.Native.Nat.{_-_, _^_, _≤_};
 ghost use lib.ListN.{getD, replicate};
 ghost use Rattle.regular.specs.Sizes.{Size};
-ghost use Rattle.regular.specs.Runs.{runsOf, switched};
-ghost use Rattle.regular.specs.Words.{Generated, Reduced};
-ghost use Rattle.regular.specs.Columns.{planOf, Listed, RunTable, RunsOfPlan, StandardColumns};
+ghost use Rattle.regular.specs.Runs.{switched};
+ghost use Rattle.regular.specs.Words.{Reduced};
+ghost use Rattle.regular.specs.Columns.{Listed, RunTable, RunsOfPlan, StandardColumns};
 ghost use Rattle.regular.specs.Designs.{Holds, blank};
 ghost use Rattle.regular.specs.Smallest.{Equal};
-ghost use Rattle.regular.specs.Refusals.{wordsFaults, runsFaults, designFaults, columnsFaults, LentFault, either, Gives, Fills};
+ghost use Rattle.regular.specs.Given.{ofWords, ofRuns, ofDesign, ofColumns, GivesFor, FillsFor};
 ghost use Rattle.lent.specs.Lends.{Lends};
 ghost use Rattle.forms.specs.Made.{DesignMade, RunsMade, WordsAt};
 use bits::power;
@@ -42,31 +42,28 @@ fn design_of(n: usize, g: usize, plan: Admitted) -> DesignAnswer
 
 // Words to columns: the design record of the plan that the words generate.
 pub fn design_of_words(n: usize, g: usize, words: &[u16]) -> DesignAnswer
-    ensures { λ r. ⌜ Gives (wordsFaults n g (now (words .entry))) (Holds n (n - g) (StandardColumns n (n - g) (Generated n g (now (words .entry))))) blank (r .number) (r .design) ⌝ }
+    ensures { λ r. ⌜ GivesFor (ofWords n g (now (words .entry))) (λ s. Holds n (n - g) (StandardColumns n (n - g) s)) blank (r .number) (r .design) ⌝ }
 {
     design_of(n, g, admission::admit_words(n, g, words))
 }
 
 // The same, the columns going into a lent list.
 pub fn columns_of_words(n: usize, g: usize, words: &[u16], out: &mut [u8]) -> u8
-    ensures { λ r. ⌜ Fills (either (wordsFaults n g (now (words .entry))) (LentFault n (now (out .entry)))) n
-        (StandardColumns n (n - g) (Generated n g (now (words .entry)))) (now (out .entry)) (now (out .exit)) r ⌝ }
+    ensures { λ r. ⌜ FillsFor (ofWords n g (now (words .entry))) n (StandardColumns n (n - g)) (now (out .entry)) (now (out .exit)) r ⌝ }
 {
     lend_columns(n, admission::admit_words(n, g, words), out)
 }
 
 // Run table to columns: the design record of the plan of a run table, its first run switched to 0.
 pub fn design_of_runs(n: usize, g: usize, runs: &[u16]) -> DesignAnswer
-    ensures { λ r. ⌜ Gives (runsFaults n g (now (runs .entry)))
-        (Holds n (n - g) (StandardColumns n (n - g) (switched (getD (now (runs .entry)) 0 0) (runsOf (now (runs .entry)))))) blank (r .number) (r .design) ⌝ }
+    ensures { λ r. ⌜ GivesFor (ofRuns n g (now (runs .entry))) (λ s. Holds n (n - g) (StandardColumns n (n - g) (switched (getD (now (runs .entry)) 0 0) s))) blank (r .number) (r .design) ⌝ }
 {
     design_of(n, g, admission::admit_runs(n, g, runs))
 }
 
 // The same, the columns going into a lent list.
 pub fn columns_of_runs(n: usize, g: usize, runs: &[u16], out: &mut [u8]) -> u8
-    ensures { λ r. ⌜ Fills (either (runsFaults n g (now (runs .entry))) (LentFault n (now (out .entry)))) n
-        (StandardColumns n (n - g) (switched (getD (now (runs .entry)) 0 0) (runsOf (now (runs .entry))))) (now (out .entry)) (now (out .exit)) r ⌝ }
+    ensures { λ r. ⌜ FillsFor (ofRuns n g (now (runs .entry))) n (λ s. StandardColumns n (n - g) (switched (getD (now (runs .entry)) 0 0) s)) (now (out .entry)) (now (out .exit)) r ⌝ }
 {
     lend_columns(n, admission::admit_runs(n, g, runs), out)
 }
@@ -100,16 +97,14 @@ fn lend_words(n: usize, g: usize, plan: Admitted, out: &mut [u16]) -> u8
 
 // Columns to words: the reduced words of the plan of a design record.
 pub fn words_of_design(n: usize, g: usize, design: Design, out: &mut [u16]) -> u8
-    ensures { λ r. ⌜ Fills (either (designFaults n g design) (LentFault g (now (out .entry)))) g
-        (Reduced n g (planOf n (n - g) (design .columns))) (now (out .entry)) (now (out .exit)) r ⌝ }
+    ensures { λ r. ⌜ FillsFor (ofDesign n g design) g (Reduced n g) (now (out .entry)) (now (out .exit)) r ⌝ }
 {
     lend_words(n, g, admission::admit_design(n, g, design), out)
 }
 
 // The same of a list of columns.
 pub fn words_of_columns(n: usize, g: usize, columns: &[u8], out: &mut [u16]) -> u8
-    ensures { λ r. ⌜ Fills (either (columnsFaults n g (now (columns .entry))) (LentFault g (now (out .entry)))) g
-        (Reduced n g (planOf n (n - g) (now (columns .entry)))) (now (out .entry)) (now (out .exit)) r ⌝ }
+    ensures { λ r. ⌜ FillsFor (ofColumns n g (now (columns .entry))) g (Reduced n g) (now (out .entry)) (now (out .exit)) r ⌝ }
 {
     lend_words(n, g, admission::admit_columns(n, g, columns), out)
 }
@@ -131,7 +126,7 @@ fn runs_of(n: usize, g: usize, number: u8, columns: [u8; 16]) -> RunsAnswer
 
 // Columns to run table: run j of a design record at place j.
 pub fn runs_of_design(n: usize, g: usize, design: Design) -> RunsAnswer
-    ensures { λ r. ⌜ Gives (designFaults n g design) (RunTable n (n - g) (design .columns)) (replicate 128 0) (r .number) (r .runs) ⌝ }
+    ensures { λ r. ⌜ GivesFor (ofDesign n g design) (λ _. RunTable n (n - g) (design .columns)) (replicate 128 0) (r .number) (r .runs) ⌝ }
 {
     let plan = admission::admit_design(n, g, design);
     let columns = design.columns;
@@ -140,7 +135,7 @@ pub fn runs_of_design(n: usize, g: usize, design: Design) -> RunsAnswer
 
 // Words to run table: that of their standard columns.
 pub fn runs_of_words(n: usize, g: usize, words: &[u16]) -> RunsAnswer
-    ensures { λ r. ⌜ Gives (wordsFaults n g (now (words .entry))) (RunsOfPlan n (n - g) RunTable (Generated n g (now (words .entry)))) (replicate 128 0) (r .number) (r .runs) ⌝ }
+    ensures { λ r. ⌜ GivesFor (ofWords n g (now (words .entry))) (RunsOfPlan n (n - g) RunTable) (replicate 128 0) (r .number) (r .runs) ⌝ }
 {
     let standard = admission::admit_words(n, g, words);
     let columns = standard.columns;
@@ -163,8 +158,7 @@ fn lend_runs(n: usize, g: usize, number: u8, columns: [u8; 16], out: &mut [u16])
 
 // The runs of a list of columns, in a lent list.
 pub fn list_runs_of_columns(n: usize, g: usize, columns: &[u8], out: &mut [u16]) -> u8
-    ensures { λ r. ⌜ Fills (either (columnsFaults n g (now (columns .entry))) (LentFault (2 ^ (n - g)) (now (out .entry)))) (2 ^ (n - g))
-        (Listed n (n - g) (now (columns .entry))) (now (out .entry)) (now (out .exit)) r ⌝ }
+    ensures { λ r. ⌜ FillsFor (ofColumns n g (now (columns .entry))) (2 ^ (n - g)) (λ _. Listed n (n - g) (now (columns .entry))) (now (out .entry)) (now (out .exit)) r ⌝ }
 {
     let plan = admission::admit_columns(n, g, columns);
     let number = plan.number;
@@ -176,8 +170,7 @@ pub fn list_runs_of_columns(n: usize, g: usize, columns: &[u8], out: &mut [u16])
 
 // The runs of words, in a lent list: those of their standard columns.
 pub fn list_runs_of_words(n: usize, g: usize, words: &[u16], out: &mut [u16]) -> u8
-    ensures { λ r. ⌜ Fills (either (wordsFaults n g (now (words .entry))) (LentFault (2 ^ (n - g)) (now (out .entry)))) (2 ^ (n - g))
-        (RunsOfPlan n (n - g) Listed (Generated n g (now (words .entry)))) (now (out .entry)) (now (out .exit)) r ⌝ }
+    ensures { λ r. ⌜ FillsFor (ofWords n g (now (words .entry))) (2 ^ (n - g)) (RunsOfPlan n (n - g) Listed) (now (out .entry)) (now (out .exit)) r ⌝ }
 {
     let plan = admission::admit_words(n, g, words);
     let columns = plan.columns;

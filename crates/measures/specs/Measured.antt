@@ -1,4 +1,4 @@
--- What is measured of an admitted plan by its standard columns is what the calls promise of the plan.
+-- What is measured of an admitted plan by its standard columns is what the calls promise of the given plan.
 use mathlib.Core.List.{List}
 use mathlib.Core.Path.{_≡_, refl, sym, subst}
 use Prim.Native.Nat.{ℕ, _+_, _-_, _≤_, _<_}
@@ -8,7 +8,10 @@ use Rattle.regular.specs.Columns.{planOf}
 use Rattle.regular.specs.Pattern.{Pattern, Resolution, Distances}
 use Rattle.regular.specs.Refusals.{LentFault, either, Gives, Fills}
 use Rattle.regular.specs.Runs.{Runs, Agree, switched}
-use Rattle.words.specs.Switches.{agree-sym, pattern-agree, resolution-agree, distances-agree, pattern-switched, resolution-switched, distances-switched}
+use Rattle.regular.specs.Given.{Given}
+use Rattle.regular.specs.Measures.{PatternInto, ResolutionOf, ResolutionInto, DistancesInto}
+use Rattle.regular.specs.declared.Admitted.{Admitted}
+use Rattle.words.specs.Switches.{agree-sym, pattern-agree, resolution-agree, distances-agree, switched-twice, pattern-switched, resolution-switched, distances-switched}
 use Rattle.counts.specs.Models.{firstLength}
 use Rattle.counts.specs.Resolutions.{resolution-of-pattern}
 use Rattle.lent.specs.Copied.{Starts}
@@ -48,53 +51,55 @@ pub distances-lends : {number n : ℕ} {s : Runs} {d ys zs : List ℕ} {r : ℕ}
     → Lends 0 (length (take (n + 1) d)) (Starts (take (n + 1) d)) ys zs r → Lends number (n + 1) (Distances n s 0) ys zs r
 distances-lends {number} {n} {s} {d} {ys} {zs} {r} e h c = lends-start number (n + 1) (Distances n s 0) d ys zs r e h (λ same. distances-begins n s 0 d zs same c)
 
--- a plan s, admitted with the standard columns a
-module _ {fault : ℕ → Type 0} {n g : ℕ} {s : Runs} {number : ℕ} {a : List ℕ} (ad : Admission fault n g s number a) where
-  abbrev plan : Runs
-  plan = planOf n (n - g) a
+-- a plan and the same switched have one pattern
+pub pattern-back : (n mask : ℕ) (s : Runs) (p : List ℕ) → Pattern n s p → Pattern n (switched mask s) p
+pattern-back n mask s p h =
+    let t = switched mask s in
+    pattern-switched n mask t p (pattern-agree n s (switched mask t) (agree-sym (switched mask t) s (switched-twice mask s)) p h)
 
-  agree : number ≡ 0 → Agree plan s
-  agree e = agree-sym s plan (ad .standard e .plan)
+-- a given plan, admitted with its start and the standard columns of the plan switched by it: switching keeps the words, and moves the start
+module _ {n g : ℕ} {p : Given} {a : Admitted} (ad : Admission n g p a) where
+  abbrev columns : Runs
+  columns = planOf n (n - g) (a .columns)
 
-  pub pattern-fills : ((j : ℕ) → fault j → j ≤ 7) → {ys zs : List ℕ} {r : ℕ} → Lends number n (Pattern n plan) ys zs r
-      → Fills (either fault (LentFault n ys)) n (Pattern n s) ys zs r
-  pattern-fills most {ys} {zs} {r} l =
-      lends-fills fault number n (Pattern n s) ys zs r most (ad .lowest)
-      (lends-means number n (Pattern n plan) (Pattern n s) ys zs r (λ e. pattern-agree n plan s (agree e) zs) l)
+  agree : a .number ≡ 0 → Agree columns (switched (a .run) (p .plan))
+  agree e = agree-sym (switched (a .run) (p .plan)) columns (ad .standard e .plan)
 
-  pub resolution-gives : {r k : ℕ} → ResolutionMade n plan number r k → Gives fault (Resolution n s) 0 r k
+  pub pattern-given : a .number ≡ 0 → (c : List ℕ) → Pattern n (planOf n (n - g) (a .columns)) c → Pattern n (p .plan) c
+  pattern-given e c h = pattern-switched n (a .run) (p .plan) c (pattern-agree n columns (switched (a .run) (p .plan)) (agree e) c h)
+
+  pub pattern-columns : a .number ≡ 0 → (c : List ℕ) → Pattern n (p .plan) c → Pattern n (planOf n (n - g) (a .columns)) c
+  pattern-columns e c h = pattern-agree n (switched (a .run) (p .plan)) columns (ad .standard e .plan) c (pattern-back n (a .run) (p .plan) c h)
+
+  distances-given : a .number ≡ 0 → (c : List ℕ) → Distances n columns 0 c → (x : ℕ) → p .start x → Distances n (p .plan) x c
+  distances-given e c h x from =
+      subst (λ (v : ℕ). Distances n (p .plan) v c) (sym (ad .start e x from))
+      (distances-switched n (a .run) (p .plan) c (distances-agree n columns (switched (a .run) (p .plan)) (agree e) 0 c h))
+
+  resolution-given : a .number ≡ 0 → (k : ℕ) → Resolution n columns k → Resolution n (p .plan) k
+  resolution-given e k h = resolution-switched n (a .run) (p .plan) k (resolution-agree n columns (switched (a .run) (p .plan)) (agree e) k h)
+
+  -- in a lent list
+  fills : (k : ℕ) (Result Wanted : List ℕ → Type 0) {ys zs : List ℕ} {r : ℕ} → (a .number ≡ 0 → Result zs → Wanted zs) → Lends (a .number) k Result ys zs r
+      → Fills (either (p .faults) (LentFault k ys)) k Wanted ys zs r
+  fills k Result Wanted {ys} {zs} {r} means l =
+      lends-fills (p .faults) (a .number) k Wanted ys zs r (ad .most) (ad .lowest) (lends-means (a .number) k Result Wanted ys zs r means l)
+
+  pub pattern-fills : {ys zs : List ℕ} {r : ℕ} → Lends (a .number) n (Pattern n (planOf n (n - g) (a .columns))) ys zs r → PatternInto n p ys zs r
+  pattern-fills {ys} {zs} {r} l = fills n (Pattern n columns) (Pattern n (p .plan)) (λ e. pattern-given e zs) l
+
+  pub resolution-gives : {r k : ℕ} → ResolutionMade n (planOf n (n - g) (a .columns)) (a .number) r k → ResolutionOf n p r k
   resolution-gives {r} {k} h =
-      subst (λ (i : ℕ). Gives fault (Resolution n s) 0 i k) (sym (h .same))
-      (record { number = ad .lowest; refused = h .refused; result = λ e. resolution-agree n plan s (agree e) k (h .made e) })
+      subst (λ (i : ℕ). Gives (p .faults) (Resolution n (p .plan)) 0 i k) (sym (h .same))
+      (record { number = ad .lowest; refused = h .refused; result = λ e. resolution-given e k (h .made e) })
 
-  pub distances-fills : ((j : ℕ) → fault j → j ≤ 7) → {ys zs : List ℕ} {r : ℕ} → Lends number (n + 1) (Distances n plan 0) ys zs r
-      → Fills (either fault (LentFault (n + 1) ys)) (n + 1) (Distances n s 0) ys zs r
-  distances-fills most {ys} {zs} {r} l =
-      lends-fills fault number (n + 1) (Distances n s 0) ys zs r most (ad .lowest)
-      (lends-means number (n + 1) (Distances n plan 0) (Distances n s 0) ys zs r (λ e. distances-agree n plan s (agree e) 0 zs) l)
+  pub distances-fills : {ys zs : List ℕ} {r : ℕ} → Lends (a .number) (n + 1) (Distances n (planOf n (n - g) (a .columns)) 0) ys zs r → DistancesInto n p ys zs r
+  distances-fills {ys} {zs} {r} l = fills (n + 1) (Distances n columns 0) (λ zs. (x : ℕ) → p .start x → Distances n (p .plan) x zs) (λ e. distances-given e zs) l
 
--- what the result means
-fills-means : {fault : ℕ → Type 0} {k : ℕ} {A B : List ℕ → Type 0} {ys zs : List ℕ} {r : ℕ} → (A zs → B zs) → Fills fault k A ys zs r → Fills fault k B ys zs r
-fills-means h f = record { number = f .number; refused = f .refused; result = λ e. h (f .result e); past = f .past; size = f .size }
-
--- a plan t, admitted with its levels switched: switching keeps the words, and moves the first run
-module _ {fault : ℕ → Type 0} {n g : ℕ} (mask : ℕ) (t : Runs) {number : ℕ} {a : List ℕ} (ad : Admission fault n g (switched mask t) number a) where
-  pub pattern-switches : ((j : ℕ) → fault j → j ≤ 7) → {ys zs : List ℕ} {r : ℕ} → Lends number n (Pattern n (planOf n (n - g) a)) ys zs r
-      → Fills (either fault (LentFault n ys)) n (Pattern n t) ys zs r
-  pattern-switches most {ys} {zs} {r} l = fills-means (pattern-switched n mask t zs) (pattern-fills ad most l)
-
-  pub resolution-switches : {r k : ℕ} → ResolutionMade n (planOf n (n - g) a) number r k → Gives fault (Resolution n t) 0 r k
-  resolution-switches {r} {k} h =
-      let f = resolution-gives ad h in
-      record { number = f .number; refused = f .refused; result = λ e. resolution-switched n mask t k (f .result e) }
-
-  pub distances-switches : ((j : ℕ) → fault j → j ≤ 7) → {ys zs : List ℕ} {r : ℕ} → Lends number (n + 1) (Distances n (planOf n (n - g) a) 0) ys zs r
-      → Fills (either fault (LentFault (n + 1) ys)) (n + 1) (Distances n t mask) ys zs r
-  distances-switches most {ys} {zs} {r} l = fills-means (distances-switched n mask t zs) (distances-fills ad most l)
-
--- an answer by value, as the one place of a lent list
-pub listed-fills : {fault : ℕ → Type 0} {Wanted : ℕ → Type 0} {number k : ℕ} {ys zs : List ℕ} {r : ℕ} → ((j : ℕ) → fault j → j ≤ 7) → Gives fault Wanted 0 number k
-    → Lends number 1 (λ zs. getD zs 0 0 ≡ k) ys zs r → Fills (either fault (LentFault 1 ys)) 1 (λ zs. Wanted (getD zs 0 0)) ys zs r
-listed-fills {fault} {Wanted} {number} {k} {ys} {zs} {r} most h l =
-    lends-fills fault number 1 (λ zs. Wanted (getD zs 0 0)) ys zs r most (h .number)
-    (lends-means number 1 (λ zs. getD zs 0 0 ≡ k) (λ zs. Wanted (getD zs 0 0)) ys zs r (λ e w. subst Wanted (sym w) (h .result e)) l)
+  -- the resolution by value, as the one place of a lent list
+  pub resolution-fills : {i k : ℕ} {ys zs : List ℕ} {r : ℕ} → ResolutionMade n (planOf n (n - g) (a .columns)) (a .number) i k
+      → Lends i 1 (λ zs. getD zs 0 0 ≡ k) ys zs r → ResolutionInto n p ys zs r
+  resolution-fills {i} {k} {ys} {zs} {r} h l =
+      fills 1 (λ zs. getD zs 0 0 ≡ k) (λ zs. Resolution n (p .plan) (getD zs 0 0))
+      (λ e w. subst (Resolution n (p .plan)) (sym w) (resolution-given e k (h .made e)))
+      (subst (λ (x : ℕ). Lends x 1 (λ zs. getD zs 0 0 ≡ k) ys zs r) (h .same) l)

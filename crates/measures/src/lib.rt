@@ -2,11 +2,10 @@
 ghost use mathlib.Core.Path.{_≡_};
 ghost use Prim.Native.Nat.{ℕ, _+_, _-_, _≤_};
 ghost use lib.ListN.{getD};
-ghost use Rattle.regular.specs.Runs.{runsOf};
-ghost use Rattle.regular.specs.Words.{Generated};
 ghost use Rattle.regular.specs.Columns.{planOf};
-ghost use Rattle.regular.specs.Pattern.{Pattern, Resolution, Distances};
-ghost use Rattle.regular.specs.Refusals.{wordsFaults, designFaults, columnsFaults, runsFaults, LentFault, either, Gives, Fills};
+ghost use Rattle.regular.specs.Pattern.{Pattern, Distances};
+ghost use Rattle.regular.specs.Given.{ofWords, ofDesign, ofColumns, ofRuns};
+ghost use Rattle.regular.specs.Measures.{PatternInto, ResolutionOf, ResolutionInto, DistancesInto};
 ghost use Rattle.lent.specs.Lends.{Lends};
 ghost use Rattle.admission.specs.Admission.{Ready};
 ghost use Rattle.measures.specs.Measured.{ResolutionMade};
@@ -84,92 +83,84 @@ fn lend_distances(n: usize, g: usize, plan: Admitted, out: &mut [u16]) -> u8
 
 // The pattern of the plan that words generate, in a lent list: the count of length l at place l - 1.
 pub fn pattern_of_words(n: usize, g: usize, words: &[u16], out: &mut [u16]) -> u8
-    ensures { λ r. ⌜ Fills (either (wordsFaults n g (now (words .entry))) (LentFault n (now (out .entry)))) n
-        (Pattern n (Generated n g (now (words .entry)))) (now (out .entry)) (now (out .exit)) r ⌝ }
+    ensures { λ r. ⌜ PatternInto n (ofWords n g (now (words .entry))) (now (out .entry)) (now (out .exit)) r ⌝ }
 {
     lend_pattern(n, g, admission::admit_words(n, g, words), out)
 }
 
 // .. of the plan of a design record.
 pub fn pattern_of_design(n: usize, g: usize, design: Design, out: &mut [u16]) -> u8
-    ensures { λ r. ⌜ Fills (either (designFaults n g design) (LentFault n (now (out .entry)))) n
-        (Pattern n (planOf n (n - g) (design .columns))) (now (out .entry)) (now (out .exit)) r ⌝ }
+    ensures { λ r. ⌜ PatternInto n (ofDesign n g design) (now (out .entry)) (now (out .exit)) r ⌝ }
 {
     lend_pattern(n, g, admission::admit_design(n, g, design), out)
 }
 
 // .. of the plan of a list of columns.
 pub fn pattern_of_columns(n: usize, g: usize, list: &[u8], out: &mut [u16]) -> u8
-    ensures { λ r. ⌜ Fills (either (columnsFaults n g (now (list .entry))) (LentFault n (now (out .entry)))) n
-        (Pattern n (planOf n (n - g) (now (list .entry)))) (now (out .entry)) (now (out .exit)) r ⌝ }
+    ensures { λ r. ⌜ PatternInto n (ofColumns n g (now (list .entry))) (now (out .entry)) (now (out .exit)) r ⌝ }
 {
     lend_pattern(n, g, admission::admit_columns(n, g, list), out)
 }
 
 // .. of a run table.
 pub fn pattern_of_runs(n: usize, g: usize, runs: &[u16], out: &mut [u16]) -> u8
-    ensures { λ r. ⌜ Fills (either (runsFaults n g (now (runs .entry))) (LentFault n (now (out .entry)))) n
-        (Pattern n (runsOf (now (runs .entry)))) (now (out .entry)) (now (out .exit)) r ⌝ }
+    ensures { λ r. ⌜ PatternInto n (ofRuns n g (now (runs .entry))) (now (out .entry)) (now (out .exit)) r ⌝ }
 {
     lend_pattern(n, g, admission::admit_runs(n, g, runs), out)
 }
 
 // The resolution of the plan that words generate.
 pub fn resolution_of_words(n: usize, g: usize, words: &[u16]) -> ResolutionAnswer
-    ensures { λ r. ⌜ Gives (wordsFaults n g (now (words .entry))) (Resolution n (Generated n g (now (words .entry)))) 0 (r .number) (r .resolution) ⌝ }
+    ensures { λ r. ⌜ ResolutionOf n (ofWords n g (now (words .entry))) (r .number) (r .resolution) ⌝ }
 {
     resolution(n, g, admission::admit_words(n, g, words))
 }
 
 // .. of the plan of a design record.
 pub fn resolution_of_design(n: usize, g: usize, design: Design) -> ResolutionAnswer
-    ensures { λ r. ⌜ Gives (designFaults n g design) (Resolution n (planOf n (n - g) (design .columns))) 0 (r .number) (r .resolution) ⌝ }
+    ensures { λ r. ⌜ ResolutionOf n (ofDesign n g design) (r .number) (r .resolution) ⌝ }
 {
     resolution(n, g, admission::admit_design(n, g, design))
 }
 
 // .. of the plan of a list of columns.
 pub fn resolution_of_columns(n: usize, g: usize, list: &[u8]) -> ResolutionAnswer
-    ensures { λ r. ⌜ Gives (columnsFaults n g (now (list .entry))) (Resolution n (planOf n (n - g) (now (list .entry)))) 0 (r .number) (r .resolution) ⌝ }
+    ensures { λ r. ⌜ ResolutionOf n (ofColumns n g (now (list .entry))) (r .number) (r .resolution) ⌝ }
 {
     resolution(n, g, admission::admit_columns(n, g, list))
 }
 
 // .. of a run table.
 pub fn resolution_of_runs(n: usize, g: usize, runs: &[u16]) -> ResolutionAnswer
-    ensures { λ r. ⌜ Gives (runsFaults n g (now (runs .entry))) (Resolution n (runsOf (now (runs .entry)))) 0 (r .number) (r .resolution) ⌝ }
+    ensures { λ r. ⌜ ResolutionOf n (ofRuns n g (now (runs .entry))) (r .number) (r .resolution) ⌝ }
 {
     resolution(n, g, admission::admit_runs(n, g, runs))
 }
 
 // The distance counts of the plan that words generate from its first run, in which every factor is high, in a lent list: of distance i at place i.
 pub fn distances_of_words(n: usize, g: usize, words: &[u16], out: &mut [u16]) -> u8
-    ensures { λ r. ⌜ Fills (either (wordsFaults n g (now (words .entry))) (LentFault (n + 1) (now (out .entry)))) (n + 1)
-        (Distances n (Generated n g (now (words .entry))) 0) (now (out .entry)) (now (out .exit)) r ⌝ }
+    ensures { λ r. ⌜ DistancesInto n (ofWords n g (now (words .entry))) (now (out .entry)) (now (out .exit)) r ⌝ }
 {
     lend_distances(n, g, admission::admit_words(n, g, words), out)
 }
 
 // .. of the plan of a design record.
 pub fn distances_of_design(n: usize, g: usize, design: Design, out: &mut [u16]) -> u8
-    ensures { λ r. ⌜ Fills (either (designFaults n g design) (LentFault (n + 1) (now (out .entry)))) (n + 1)
-        (Distances n (planOf n (n - g) (design .columns)) 0) (now (out .entry)) (now (out .exit)) r ⌝ }
+    ensures { λ r. ⌜ DistancesInto n (ofDesign n g design) (now (out .entry)) (now (out .exit)) r ⌝ }
 {
     lend_distances(n, g, admission::admit_design(n, g, design), out)
 }
 
 // .. of the plan of a list of columns.
 pub fn distances_of_columns(n: usize, g: usize, list: &[u8], out: &mut [u16]) -> u8
-    ensures { λ r. ⌜ Fills (either (columnsFaults n g (now (list .entry))) (LentFault (n + 1) (now (out .entry)))) (n + 1)
-        (Distances n (planOf n (n - g) (now (list .entry))) 0) (now (out .entry)) (now (out .exit)) r ⌝ }
+    ensures { λ r. ⌜ DistancesInto n (ofColumns n g (now (list .entry))) (now (out .entry)) (now (out .exit)) r ⌝ }
 {
     lend_distances(n, g, admission::admit_columns(n, g, list), out)
 }
 
 // .. of a run table, from its first run.
 pub fn distances_of_runs(n: usize, g: usize, runs: &[u16], out: &mut [u16]) -> u8
-    ensures { λ r. ⌜ Fills (either (runsFaults n g (now (runs .entry))) (LentFault (n + 1) (now (out .entry)))) (n + 1)
-        (Distances n (runsOf (now (runs .entry))) (getD (now (runs .entry)) 0 0)) (now (out .entry)) (now (out .exit)) r ⌝ }
+    ensures { λ r. ⌜ DistancesInto n (ofRuns n g (now (runs .entry))) (now (out .entry)) (now (out .exit)) r ⌝ }
 {
     lend_distances(n, g, admission::admit_runs(n, g, runs), out)
 }
@@ -191,8 +182,7 @@ fn lend_resolution(answer: ResolutionAnswer, out: &mut [u8]) -> u8
 
 // The resolution of words, in a lent list of one place.
 pub fn list_resolution_of_words(n: usize, g: usize, words: &[u16], out: &mut [u8]) -> u8
-    ensures { λ r. ⌜ Fills (either (wordsFaults n g (now (words .entry))) (LentFault 1 (now (out .entry)))) 1
-        (λ zs. Resolution n (Generated n g (now (words .entry))) (getD zs 0 0)) (now (out .entry)) (now (out .exit)) r ⌝ }
+    ensures { λ r. ⌜ ResolutionInto n (ofWords n g (now (words .entry))) (now (out .entry)) (now (out .exit)) r ⌝ }
 {
     let plan = admission::admit_words(n, g, words);
     lend_resolution(resolution(n, g, plan), out)
@@ -200,8 +190,7 @@ pub fn list_resolution_of_words(n: usize, g: usize, words: &[u16], out: &mut [u8
 
 // The resolution of a list of columns, in a lent list of one place.
 pub fn list_resolution_of_columns(n: usize, g: usize, list: &[u8], out: &mut [u8]) -> u8
-    ensures { λ r. ⌜ Fills (either (columnsFaults n g (now (list .entry))) (LentFault 1 (now (out .entry)))) 1
-        (λ zs. Resolution n (planOf n (n - g) (now (list .entry))) (getD zs 0 0)) (now (out .entry)) (now (out .exit)) r ⌝ }
+    ensures { λ r. ⌜ ResolutionInto n (ofColumns n g (now (list .entry))) (now (out .entry)) (now (out .exit)) r ⌝ }
 {
     let plan = admission::admit_columns(n, g, list);
     lend_resolution(resolution(n, g, plan), out)
@@ -209,8 +198,7 @@ pub fn list_resolution_of_columns(n: usize, g: usize, list: &[u8], out: &mut [u8
 
 // The resolution of a run table, in a lent list of one place.
 pub fn list_resolution_of_runs(n: usize, g: usize, runs: &[u16], out: &mut [u8]) -> u8
-    ensures { λ r. ⌜ Fills (either (runsFaults n g (now (runs .entry))) (LentFault 1 (now (out .entry)))) 1
-        (λ zs. Resolution n (runsOf (now (runs .entry))) (getD zs 0 0)) (now (out .entry)) (now (out .exit)) r ⌝ }
+    ensures { λ r. ⌜ ResolutionInto n (ofRuns n g (now (runs .entry))) (now (out .entry)) (now (out .exit)) r ⌝ }
 {
     let plan = admission::admit_runs(n, g, runs);
     lend_resolution(resolution(n, g, plan), out)

@@ -1,20 +1,23 @@
 -- What the judging of one plan and of the plans of a list answers, a resolution r being wanted. Definitions only.
-use Prim.Native.Nat.{ℕ, _*_, _-_, _<_}
+use Prim.Native.Nat.{ℕ, _*_, _<_}
 use mathlib.Core.Path.{_≡_}
 use mathlib.Core.List.{List}
 use Rattle.regular.specs.Runs.{Runs}
-use Rattle.regular.specs.Columns.{planOf}
-use Rattle.regular.specs.Refusals.{WantedFault, either, Lowest, sizeFaults, designFaults, columnsFaults}
+use Rattle.regular.specs.Refusals.{WantedFault, either, Lowest, sizeFaults}
+use Rattle.regular.specs.Given.{Given, ofDesign, ofColumns}
 use Rattle.regular.specs.RefusalLaws.{Lower}
 use Rattle.regular.specs.PlanLists.{planAt, ofSome}
 use Rattle.regular.specs.declared.Design.{Design}
 
 -- the faults of one plan: its own, and a word shorter than r
+abbrev pub wanted : ℕ → ℕ → Given → ℕ → Type 0
+wanted n r p = either (p .faults) (WantedFault n r (p .plan))
+
 abbrev pub designWanted : ℕ → ℕ → ℕ → Design → ℕ → Type 0
-designWanted n g r d = either (designFaults n g d) (WantedFault n r (planOf n (n - g) (d .columns)))
+designWanted n g r d = wanted n r (ofDesign n g d)
 
 abbrev pub columnsWanted : ℕ → ℕ → ℕ → List ℕ → ℕ → Type 0
-columnsWanted n g r c = either (columnsFaults n g c) (WantedFault n r (planOf n (n - g) c))
+columnsWanted n g r c = wanted n r (ofColumns n g c)
 
 -- a plan s with the refusal `number`, 0 if admitted: that number, or what its words say
 pub record Verdict (n r : ℕ) (s : Runs) (number k : ℕ) : Type 0 where

@@ -1,16 +1,17 @@
 -- One plan's number from its resolution, the number of a list of plans from those of its plans, and what r = 3 adds: nothing.
-use Prim.Native.Nat.{ℕ, zero, suc, _+_, _*_, _-_, _/_, _%_, _≤_, _<_}
+use Prim.Native.Nat.{ℕ, suc, _+_, _*_, _-_, _/_, _%_, _≤_, _<_}
 use mathlib.Core.Path.{_≡_, refl, sym, ap, subst, _∙_}
 use mathlib.Core.Logic.{_⊎_, inl, inr, ⊎-elim, by-cases}
 use mathlib.Core.List.{List}
-use native.Mathlib.Decide.{decLt}
+use native.Mathlib.Decide.{ℕ-discrete, decLt}
 use native.Mathlib.Nat.{add-zero, div-add-mod', mul-le-mul-right, suc-mul}
 use native.Mathlib.Numerals.{add-one}
 use native.Mathlib.Omega.{arith}
 use lib.Arith.{digits-mod}
 use lib.ListN.{length, getD, take, drop}
 use Rattle.gf2.specs.Letters.{ones-some}
-use Rattle.regular.specs.Runs.{Runs}
+use Rattle.regular.specs.Runs.{Runs, switched}
+use Rattle.regular.specs.Given.{Given}
 use Rattle.regular.specs.Words.{NoShort}
 use Rattle.regular.specs.Columns.{planOf}
 use Rattle.regular.specs.Designs.{blank}
@@ -19,12 +20,13 @@ use Rattle.regular.specs.Refusals.{ResolutionFault, ColumnsFault, WantedFault, 
 use Rattle.regular.specs.RefusalLaws.{lowest-none, lowest-at, lowest-same, lowest-first, lowest-then, lowest-lower, none-lowest, list-is, columns-least, Lower}
 use Rattle.regular.specs.PlanLists.{planAt, HasPlan, BytesFault, ofSome, recordsFaults, plansFaults, wantedRecordsFaults, wantedPlansFaults}
 use Rattle.regular.specs.declared.Design.{Design}
+use Rattle.regular.specs.declared.Admitted.{Admitted}
 use Rattle.words.specs.Short.{plain-long}
-use Rattle.words.specs.Switches.{agree-sym, short-agree}
+use Rattle.words.specs.Switches.{agree-sym, short-agree, short-switched, switched-twice}
 use Rattle.counts.specs.Models.{firstLength}
 use Rattle.counts.specs.Resolutions.{resolution-of-pattern}
 use Rattle.admission.specs.Admission.{Admission, Ready}
-use Rattle.plan_lists.specs.Judged.{designWanted, columnsWanted, Verdict, Joined, AllJudged}
+use Rattle.plan_lists.specs.Judged.{wanted, designWanted, columnsWanted, Verdict, Joined, AllJudged}
 
 -- the wanted resolution
 pub wanted-is : (n r : ℕ) (s : Runs) (k : ℕ) → WantedFault n r s k → k ≡ 7
@@ -73,23 +75,31 @@ passed-on n r s number some = record { refused = λ _. refl; admitted = λ e. ab
 pub judges : (n r : ℕ) (s : Runs) (number k : ℕ) → number ≡ 0 → Lowest (WantedFault n r s) k → Verdict n r s number k
 judges n r s number k e l = record { refused = λ h. absurd (omega arith); admitted = λ _. l }
 
--- a plan s, admitted by the faults `fault` with the standard columns a
-pub judged : {fault : ℕ → Type 0} {n g r : ℕ} {s : Runs} {k : ℕ} {a : List ℕ} (number : ℕ) → ((j : ℕ) → fault j → j ≤ 7) → Admission fault n g s number a
-    → Verdict n r (planOf n (n - g) a) number k → Lowest (either fault (WantedFault n r s)) k
-judged {fault} {n} {g} {r} {s} {k} {a} zero most ad v = lowest-then fault (WantedFault n r s) k (ad .lowest) (lowest-same (WantedFault n r plan) (WantedFault n r s) k into onto (v .admitted refl))
-  where
-    plan : Runs
-    plan = planOf n (n - g) a
+-- an admitted plan
+module _ {n g : ℕ} {p : Given} {x : Admitted} (ad : Admission n g p x) where
+  abbrev columns : Runs
+  columns = planOf n (n - g) (x .columns)
 
-    into : (j : ℕ) → WantedFault n r plan j → WantedFault n r s j
-    into j (WantedFault.short w) = WantedFault.short (short-agree n plan s (agree-sym s plan (ad .standard refl .plan)) r w)
+  abbrev away : Runs
+  away = switched (x .run) (p .plan)
 
-    onto : (j : ℕ) → WantedFault n r s j → WantedFault n r plan j
-    onto j (WantedFault.short w) = WantedFault.short (short-agree n s plan (ad .standard refl .plan) r w)
-judged {fault} {n} {g} {r} {s} {k} {a} (suc number) most ad v =
-    subst (Lowest (either fault (WantedFault n r s))) (sym (v .refused (omega arith)))
-    (lowest-first fault (WantedFault n r s) (suc number) (omega arith) (ad .lowest)
-    (λ j f. omega (arith, wanted-is n r s j f, most (suc number) (ad .lowest .applies (omega arith)))))
+  into : x .number ≡ 0 → (r j : ℕ) → WantedFault n r (planOf n (n - g) (x .columns)) j → WantedFault n r (p .plan) j
+  into e r j (WantedFault.short w) = WantedFault.short (short-switched n (x .run) (p .plan) r (short-agree n columns away (agree-sym away columns (ad .standard e .plan)) r w))
+
+  onto : x .number ≡ 0 → (r j : ℕ) → WantedFault n r (p .plan) j → WantedFault n r (planOf n (n - g) (x .columns)) j
+  onto e r j (WantedFault.short w) =
+      let back = switched-twice (x .run) (p .plan) in
+      WantedFault.short (short-agree n away columns (ad .standard e .plan) r
+      (short-switched n (x .run) away r (short-agree n (p .plan) (switched (x .run) away) (agree-sym (switched (x .run) away) (p .plan) back) r w)))
+
+  pub judged : {r k : ℕ} → Verdict n r (planOf n (n - g) (x .columns)) (x .number) k → Lowest (wanted n r p) k
+  judged {r} {k} v =
+      by-cases (ℕ-discrete (x .number) 0)
+      (λ e. lowest-then (p .faults) (WantedFault n r (p .plan)) k (subst (Lowest (p .faults)) e (ad .lowest))
+      (lowest-same (WantedFault n r columns) (WantedFault n r (p .plan)) k (into e r) (onto e r) (v .admitted e)))
+      (λ some. subst (Lowest (wanted n r p)) (sym (v .refused (omega arith)))
+      (lowest-first (p .faults) (WantedFault n r (p .plan)) (x .number) (omega arith) (ad .lowest)
+      (λ j f. omega (arith, wanted-is n r (p .plan) j f, ad .most (x .number) (ad .lowest .applies (omega arith))))))
 
 -- one plan more
 module _ (S : ℕ → Type 0) (fault : ℕ → ℕ → Type 0) (count lowest k : ℕ) (low : Lowest (either S (ofSome (λ i. i < count) fault)) lowest) (j : Joined (fault count) lowest k) where

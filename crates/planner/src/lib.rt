@@ -1,16 +1,15 @@
 // The functions that the C planner and the tests call: plain numbers and lists, no requires, and nothing but a call of the function that has the
 // same contract. include/planner.h says what each one means.
 ghost use mathlib.Core.Path.{_≡_};
-ghost use Prim.Native.Nat.{_+_, _-_, _^_, _<_};
-ghost use lib.ListN.{length, getD};
-ghost use Rattle.regular.specs.Runs.{runsOf, switched};
-ghost use Rattle.regular.specs.Words.{Generated, Reduced};
-ghost use Rattle.regular.specs.Columns.{planOf, Listed, RunsOfPlan, StandardColumns};
-ghost use Rattle.regular.specs.Pattern.{Pattern, Resolution, Distances, LessAberration};
-ghost use Rattle.regular.specs.Refusals.{wordsFaults, runsFaults, columnsFaults, LentFault, either, Lowest, Chooses, Fills};
-ghost use Rattle.regular.specs.Comparisons.{Compares, Checks, Witness, Told, comparedNumber, checkedNumber};
-ghost use Rattle.regular.specs.PlanLists.{plansFaults};
-ghost use Rattle.regular.specs.Same.{moved};
+ghost use Prim.Native.Nat.{_-_, _^_};
+ghost use lib.ListN.{getD};
+ghost use Rattle.regular.specs.Runs.{switched};
+ghost use Rattle.regular.specs.Words.{Reduced};
+ghost use Rattle.regular.specs.Columns.{Listed, RunsOfPlan, StandardColumns};
+ghost use Rattle.regular.specs.Refusals.{either, Lowest};
+ghost use Rattle.regular.specs.Given.{ofWords, ofRuns, ofColumns, FillsFor};
+ghost use Rattle.regular.specs.Measures.{PatternInto, ResolutionInto, DistancesInto, ChoosesLess};
+ghost use Rattle.regular.specs.Comparisons.{Compares, ChecksWitness, Told, comparedNumber, checkedNumber};
 ghost use Rattle.regular.specs.SmallestAnswers.{ReducesInto, ReducesEach};
 ghost use Rattle.regular.specs.Catalogues.{ListsBytes};
 ghost use Rattle.regular.specs.Book.{WritesPlans};
@@ -24,8 +23,7 @@ use regular::PlaceAnswer;
 // Words to columns.
 #[no_mangle]
 pub extern "C" fn plan_columns_of_words(n: usize, g: usize, words: &[u16], columns: &mut [u8]) -> u8
-    ensures { λ r. ⌜ Fills (either (wordsFaults n g (now (words .entry))) (LentFault n (now (columns .entry)))) n
-        (StandardColumns n (n - g) (Generated n g (now (words .entry)))) (now (columns .entry)) (now (columns .exit)) r ⌝ }
+    ensures { λ r. ⌜ FillsFor (ofWords n g (now (words .entry))) n (StandardColumns n (n - g)) (now (columns .entry)) (now (columns .exit)) r ⌝ }
 {
     forms::columns_of_words(n, g, words, columns)
 }
@@ -33,8 +31,7 @@ pub extern "C" fn plan_columns_of_words(n: usize, g: usize, words: &[u16], colum
 // Run table to columns.
 #[no_mangle]
 pub extern "C" fn plan_columns_of_runs(n: usize, g: usize, runs: &[u16], columns: &mut [u8]) -> u8
-    ensures { λ r. ⌜ Fills (either (runsFaults n g (now (runs .entry))) (LentFault n (now (columns .entry)))) n
-        (StandardColumns n (n - g) (switched (getD (now (runs .entry)) 0 0) (runsOf (now (runs .entry))))) (now (columns .entry)) (now (columns .exit)) r ⌝ }
+    ensures { λ r. ⌜ FillsFor (ofRuns n g (now (runs .entry))) n (λ s. StandardColumns n (n - g) (switched (getD (now (runs .entry)) 0 0) s)) (now (columns .entry)) (now (columns .exit)) r ⌝ }
 {
     forms::columns_of_runs(n, g, runs, columns)
 }
@@ -42,8 +39,7 @@ pub extern "C" fn plan_columns_of_runs(n: usize, g: usize, runs: &[u16], columns
 // Columns to words.
 #[no_mangle]
 pub extern "C" fn plan_words_of_columns(n: usize, g: usize, columns: &[u8], words: &mut [u16]) -> u8
-    ensures { λ r. ⌜ Fills (either (columnsFaults n g (now (columns .entry))) (LentFault g (now (words .entry)))) g
-        (Reduced n g (planOf n (n - g) (now (columns .entry)))) (now (words .entry)) (now (words .exit)) r ⌝ }
+    ensures { λ r. ⌜ FillsFor (ofColumns n g (now (columns .entry))) g (Reduced n g) (now (words .entry)) (now (words .exit)) r ⌝ }
 {
     forms::words_of_columns(n, g, columns, words)
 }
@@ -51,8 +47,7 @@ pub extern "C" fn plan_words_of_columns(n: usize, g: usize, columns: &[u8], word
 // Columns to run table.
 #[no_mangle]
 pub extern "C" fn plan_runs_of_columns(n: usize, g: usize, columns: &[u8], runs: &mut [u16]) -> u8
-    ensures { λ r. ⌜ Fills (either (columnsFaults n g (now (columns .entry))) (LentFault (2 ^ (n - g)) (now (runs .entry)))) (2 ^ (n - g))
-        (Listed n (n - g) (now (columns .entry))) (now (runs .entry)) (now (runs .exit)) r ⌝ }
+    ensures { λ r. ⌜ FillsFor (ofColumns n g (now (columns .entry))) (2 ^ (n - g)) (λ _. Listed n (n - g) (now (columns .entry))) (now (runs .entry)) (now (runs .exit)) r ⌝ }
 {
     forms::list_runs_of_columns(n, g, columns, runs)
 }
@@ -60,8 +55,7 @@ pub extern "C" fn plan_runs_of_columns(n: usize, g: usize, columns: &[u8], runs:
 // Words to run table.
 #[no_mangle]
 pub extern "C" fn plan_runs_of_words(n: usize, g: usize, words: &[u16], runs: &mut [u16]) -> u8
-    ensures { λ r. ⌜ Fills (either (wordsFaults n g (now (words .entry))) (LentFault (2 ^ (n - g)) (now (runs .entry)))) (2 ^ (n - g))
-        (RunsOfPlan n (n - g) Listed (Generated n g (now (words .entry)))) (now (runs .entry)) (now (runs .exit)) r ⌝ }
+    ensures { λ r. ⌜ FillsFor (ofWords n g (now (words .entry))) (2 ^ (n - g)) (RunsOfPlan n (n - g) Listed) (now (runs .entry)) (now (runs .exit)) r ⌝ }
 {
     forms::list_runs_of_words(n, g, words, runs)
 }
@@ -74,8 +68,7 @@ pub extern "C" fn plan_pattern_of_columns(
     columns: &[u8],
     pattern: &mut [u16],
 ) -> u8
-    ensures { λ r. ⌜ Fills (either (columnsFaults n g (now (columns .entry))) (LentFault n (now (pattern .entry)))) n
-        (Pattern n (planOf n (n - g) (now (columns .entry)))) (now (pattern .entry)) (now (pattern .exit)) r ⌝ }
+    ensures { λ r. ⌜ PatternInto n (ofColumns n g (now (columns .entry))) (now (pattern .entry)) (now (pattern .exit)) r ⌝ }
 {
     measures::pattern_of_columns(n, g, columns, pattern)
 }
@@ -88,8 +81,7 @@ pub extern "C" fn plan_distances_of_columns(
     columns: &[u8],
     counts: &mut [u16],
 ) -> u8
-    ensures { λ r. ⌜ Fills (either (columnsFaults n g (now (columns .entry))) (LentFault (n + 1) (now (counts .entry)))) (n + 1)
-        (Distances n (planOf n (n - g) (now (columns .entry))) 0) (now (counts .entry)) (now (counts .exit)) r ⌝ }
+    ensures { λ r. ⌜ DistancesInto n (ofColumns n g (now (columns .entry))) (now (counts .entry)) (now (counts .exit)) r ⌝ }
 {
     measures::distances_of_columns(n, g, columns, counts)
 }
@@ -102,8 +94,7 @@ pub extern "C" fn plan_pattern_of_words(
     words: &[u16],
     pattern: &mut [u16],
 ) -> u8
-    ensures { λ r. ⌜ Fills (either (wordsFaults n g (now (words .entry))) (LentFault n (now (pattern .entry)))) n
-        (Pattern n (Generated n g (now (words .entry)))) (now (pattern .entry)) (now (pattern .exit)) r ⌝ }
+    ensures { λ r. ⌜ PatternInto n (ofWords n g (now (words .entry))) (now (pattern .entry)) (now (pattern .exit)) r ⌝ }
 {
     measures::pattern_of_words(n, g, words, pattern)
 }
@@ -116,8 +107,7 @@ pub extern "C" fn plan_distances_of_words(
     words: &[u16],
     counts: &mut [u16],
 ) -> u8
-    ensures { λ r. ⌜ Fills (either (wordsFaults n g (now (words .entry))) (LentFault (n + 1) (now (counts .entry)))) (n + 1)
-        (Distances n (Generated n g (now (words .entry))) 0) (now (counts .entry)) (now (counts .exit)) r ⌝ }
+    ensures { λ r. ⌜ DistancesInto n (ofWords n g (now (words .entry))) (now (counts .entry)) (now (counts .exit)) r ⌝ }
 {
     measures::distances_of_words(n, g, words, counts)
 }
@@ -125,8 +115,7 @@ pub extern "C" fn plan_distances_of_words(
 // The pattern, lengths 1 to n.
 #[no_mangle]
 pub extern "C" fn plan_pattern_of_runs(n: usize, g: usize, runs: &[u16], pattern: &mut [u16]) -> u8
-    ensures { λ r. ⌜ Fills (either (runsFaults n g (now (runs .entry))) (LentFault n (now (pattern .entry)))) n
-        (Pattern n (runsOf (now (runs .entry)))) (now (pattern .entry)) (now (pattern .exit)) r ⌝ }
+    ensures { λ r. ⌜ PatternInto n (ofRuns n g (now (runs .entry))) (now (pattern .entry)) (now (pattern .exit)) r ⌝ }
 {
     measures::pattern_of_runs(n, g, runs, pattern)
 }
@@ -134,8 +123,7 @@ pub extern "C" fn plan_pattern_of_runs(n: usize, g: usize, runs: &[u16], pattern
 // The distance counts, 0 to n.
 #[no_mangle]
 pub extern "C" fn plan_distances_of_runs(n: usize, g: usize, runs: &[u16], counts: &mut [u16]) -> u8
-    ensures { λ r. ⌜ Fills (either (runsFaults n g (now (runs .entry))) (LentFault (n + 1) (now (counts .entry)))) (n + 1)
-        (Distances n (runsOf (now (runs .entry))) (getD (now (runs .entry)) 0 0)) (now (counts .entry)) (now (counts .exit)) r ⌝ }
+    ensures { λ r. ⌜ DistancesInto n (ofRuns n g (now (runs .entry))) (now (counts .entry)) (now (counts .exit)) r ⌝ }
 {
     measures::distances_of_runs(n, g, runs, counts)
 }
@@ -148,8 +136,7 @@ pub extern "C" fn plan_resolution_of_columns(
     columns: &[u8],
     resolution: &mut [u8],
 ) -> u8
-    ensures { λ r. ⌜ Fills (either (columnsFaults n g (now (columns .entry))) (LentFault 1 (now (resolution .entry)))) 1
-        (λ zs. Resolution n (planOf n (n - g) (now (columns .entry))) (getD zs 0 0)) (now (resolution .entry)) (now (resolution .exit)) r ⌝ }
+    ensures { λ r. ⌜ ResolutionInto n (ofColumns n g (now (columns .entry))) (now (resolution .entry)) (now (resolution .exit)) r ⌝ }
 {
     measures::list_resolution_of_columns(n, g, columns, resolution)
 }
@@ -162,8 +149,7 @@ pub extern "C" fn plan_resolution_of_words(
     words: &[u16],
     resolution: &mut [u8],
 ) -> u8
-    ensures { λ r. ⌜ Fills (either (wordsFaults n g (now (words .entry))) (LentFault 1 (now (resolution .entry)))) 1
-        (λ zs. Resolution n (Generated n g (now (words .entry))) (getD zs 0 0)) (now (resolution .entry)) (now (resolution .exit)) r ⌝ }
+    ensures { λ r. ⌜ ResolutionInto n (ofWords n g (now (words .entry))) (now (resolution .entry)) (now (resolution .exit)) r ⌝ }
 {
     measures::list_resolution_of_words(n, g, words, resolution)
 }
@@ -176,8 +162,7 @@ pub extern "C" fn plan_resolution_of_runs(
     runs: &[u16],
     resolution: &mut [u8],
 ) -> u8
-    ensures { λ r. ⌜ Fills (either (runsFaults n g (now (runs .entry))) (LentFault 1 (now (resolution .entry)))) 1
-        (λ zs. Resolution n (runsOf (now (runs .entry))) (getD zs 0 0)) (now (resolution .entry)) (now (resolution .exit)) r ⌝ }
+    ensures { λ r. ⌜ ResolutionInto n (ofRuns n g (now (runs .entry))) (now (resolution .entry)) (now (resolution .exit)) r ⌝ }
 {
     measures::list_resolution_of_runs(n, g, runs, resolution)
 }
@@ -185,8 +170,7 @@ pub extern "C" fn plan_resolution_of_runs(
 // Which of two lists of words has less aberration: 1 the first, 2 the second, 0 if refused.
 #[no_mangle]
 pub extern "C" fn plan_less_aberration(n: usize, g: usize, first: &[u16], second: &[u16]) -> u8
-    ensures { λ r. ⌜ Chooses (either (wordsFaults n g (now (first .entry))) (wordsFaults n g (now (second .entry))))
-        (LessAberration n (n - g) (Generated n g (now (second .entry))) (Generated n g (now (first .entry)))) r ⌝ }
+    ensures { λ r. ⌜ ChoosesLess n (n - g) (ofWords n g (now (first .entry))) (ofWords n g (now (second .entry))) r ⌝ }
 {
     aberration::choice(n, g, first, second)
 }
@@ -194,7 +178,7 @@ pub extern "C" fn plan_less_aberration(n: usize, g: usize, first: &[u16], second
 // The number of its refusal.
 #[no_mangle]
 pub extern "C" fn plan_aberration_refusal(n: usize, g: usize, first: &[u16], second: &[u16]) -> u8
-    ensures { λ r. ⌜ Lowest (either (wordsFaults n g (now (first .entry))) (wordsFaults n g (now (second .entry)))) r ⌝ }
+    ensures { λ r. ⌜ Lowest (either (ofWords n g (now (first .entry)) .faults) (ofWords n g (now (second .entry)) .faults)) r ⌝ }
 {
     aberration::aberration_refusal(n, g, first, second)
 }
@@ -220,8 +204,7 @@ pub extern "C" fn plan_check_witness(
     names: &[u8],
     mask: u16,
 ) -> u32
-    ensures { λ r. ⌜ Told (Checks (either (runsFaults n g (now (first .entry))) (runsFaults n g (now (second .entry))))
-        (Witness n (now (first .entry)) (now (second .entry)) (now (names .entry)) mask)) checkedNumber r ⌝ }
+    ensures { λ r. ⌜ Told (ChecksWitness n (ofRuns n g (now (first .entry))) (ofRuns n g (now (second .entry))) (now (names .entry)) mask) checkedNumber r ⌝ }
 {
     checked_number(witness_check::check_witness(n, g, first, second, names, mask))
 }
@@ -246,8 +229,7 @@ pub extern "C" fn plan_compare_columns(
     second: &[u8],
     witness: &mut [u8],
 ) -> u32
-    ensures { λ r. ⌜ Told (Compares (either (either (columnsFaults n g (now (first .entry))) (columnsFaults n g (now (second .entry)))) (LentFault n (now (witness .entry))))
-        n (planOf n (n - g) (now (first .entry))) (planOf n (n - g) (now (second .entry))) (λ mask. mask ≡ 0) (now (witness .entry)) (now (witness .exit))) comparedNumber r ⌝ }
+    ensures { λ r. ⌜ Told (Compares n (ofColumns n g (now (first .entry))) (ofColumns n g (now (second .entry))) (now (witness .entry)) (now (witness .exit))) comparedNumber r ⌝ }
 {
     compared_number(comparison::compare_columns(n, g, first, second, witness))
 }
@@ -261,8 +243,7 @@ pub extern "C" fn plan_compare_runs(
     second: &[u16],
     witness: &mut [u8],
 ) -> u32
-    ensures { λ r. ⌜ Told (Compares (either (either (runsFaults n g (now (first .entry))) (runsFaults n g (now (second .entry)))) (LentFault n (now (witness .entry))))
-        n (runsOf (now (first .entry))) (runsOf (now (second .entry))) (λ mask. mask < 2 ^ n) (now (witness .entry)) (now (witness .exit))) comparedNumber r ⌝ }
+    ensures { λ r. ⌜ Told (Compares n (ofRuns n g (now (first .entry))) (ofRuns n g (now (second .entry))) (now (witness .entry)) (now (witness .exit))) comparedNumber r ⌝ }
 {
     compared_number(comparison::compare_runs(n, g, first, second, witness))
 }
@@ -277,8 +258,7 @@ pub extern "C" fn plan_smallest_of_columns(
     smallest: &mut [u8],
     witness: &mut [u8],
 ) -> PlaceAnswer
-    ensures { λ r. ⌜ ReducesInto (either (either (columnsFaults n g (now (columns .entry))) (either (plansFaults n g (now (list .entry))) (LentFault n (now (smallest .entry))))) (LentFault n (now (witness .entry))))
-        n (n - g) (planOf n (n - g) (now (columns .entry))) (λ mask. mask ≡ 0) (now (list .entry)) (now (smallest .entry)) (now (smallest .exit)) (now (witness .entry)) (now (witness .exit))
+    ensures { λ r. ⌜ ReducesInto n g (ofColumns n g (now (columns .entry))) (now (list .entry)) (now (smallest .entry)) (now (smallest .exit)) (now (witness .entry)) (now (witness .exit))
         (r .number) 0 (r .place) ⌝ }
 {
     smallest_form::smallest_of_columns(n, g, columns, list, smallest, witness)
@@ -294,9 +274,8 @@ pub extern "C" fn plan_smallest_of_runs(
     smallest: &mut [u8],
     witness: &mut [u8],
 ) -> MaskAnswer
-    ensures { λ r. ⌜ ReducesInto (either (either (runsFaults n g (now (runs .entry))) (either (plansFaults n g (now (list .entry))) (LentFault n (now (smallest .entry))))) (LentFault n (now (witness .entry))))
-        n (n - g) (runsOf (now (runs .entry))) (λ mask. mask ≡ moved (now (witness .exit)) n (getD (now (runs .entry)) 0 0)) (now (list .entry)) (now (smallest .entry)) (now (smallest .exit))
-        (now (witness .entry)) (now (witness .exit)) (r .number) (r .mask) (r .place) ⌝ }
+    ensures { λ r. ⌜ ReducesInto n g (ofRuns n g (now (runs .entry))) (now (list .entry)) (now (smallest .entry)) (now (smallest .exit)) (now (witness .entry)) (now (witness .exit))
+        (r .number) (r .mask) (r .place) ⌝ }
 {
     smallest_form::list_smallest_of_runs(n, g, runs, list, smallest, witness)
 }
@@ -310,8 +289,7 @@ pub extern "C" fn plan_smallest_of_plans(
     forms: &mut [u8],
     witnesses: &mut [u8],
 ) -> u8
-    ensures { λ r. ⌜ ReducesEach (either (either (plansFaults n g (now (plans .entry))) (LentFault (length (now (plans .entry))) (now (forms .entry)))) (LentFault (length (now (plans .entry))) (now (witnesses .entry))))
-        n (n - g) (now (plans .entry)) (now (forms .entry)) (now (forms .exit)) (now (witnesses .entry)) (now (witnesses .exit)) r ⌝ }
+    ensures { λ r. ⌜ ReducesEach n g (now (plans .entry)) (now (forms .entry)) (now (forms .exit)) (now (witnesses .entry)) (now (witnesses .exit)) r ⌝ }
 {
     smallest_form::smallest_of_plans(n, g, plans, forms, witnesses)
 }

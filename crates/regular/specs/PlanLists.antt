@@ -1,12 +1,12 @@
 -- Several plans in one list, as design records or as their columns' bytes one after another: what is turned away, under which number (document 01's
 -- table). Definitions only.
-use Prim.Native.Nat.{ℕ, suc, _*_, _-_, _≤_, _<_}
+use Prim.Native.Nat.{ℕ, suc, _*_, _≤_, _<_}
 use mathlib.Core.Path.{_≡_}
 use mathlib.Core.List.{List}
 use lib.ListN.{length, getD, take, drop}
-use Rattle.regular.specs.Columns.{planOf}
 use Rattle.regular.specs.Designs.{blank}
-use Rattle.regular.specs.Refusals.{SizeFault, ResolutionFault, WantedFault, either, designFaults, columnsFaults}
+use Rattle.regular.specs.Refusals.{SizeFault, ResolutionFault, WantedFault, either}
+use Rattle.regular.specs.Given.{ofDesign, ofColumns}
 use Rattle.regular.specs.declared.Design.{Design}
 
 -- plan i of the bytes: the n columns from place i * n on
@@ -27,19 +27,19 @@ ofSome there fault k = (i : ℕ) × (there i × fault i k)
 
 -- a list of design records: the sizes, and the faults of each
 abbrev pub recordsFaults : ℕ → ℕ → List Design → ℕ → Type 0
-recordsFaults n g list = either (SizeFault n g) (ofSome (λ i. i < length list) (λ i. designFaults n g (getD list i blank)))
+recordsFaults n g list = either (SizeFault n g) (ofSome (λ i. i < length list) (λ i. ofDesign n g (getD list i blank) .faults))
 
 -- plans as bytes: the sizes, the count of bytes, and the faults of each
 abbrev pub plansFaults : ℕ → ℕ → List ℕ → ℕ → Type 0
-plansFaults n g bytes = either (SizeFault n g) (either (BytesFault n bytes) (ofSome (HasPlan n bytes) (λ i. columnsFaults n g (planAt n bytes i))))
+plansFaults n g bytes = either (SizeFault n g) (either (BytesFault n bytes) (ofSome (HasPlan n bytes) (λ i. ofColumns n g (planAt n bytes i) .faults)))
 
 -- the same where a resolution r is wanted: the resolution, and a word shorter than it in some plan
 abbrev pub wantedRecordsFaults : ℕ → ℕ → ℕ → List Design → ℕ → Type 0
 wantedRecordsFaults n g r list =
     either (recordsFaults n g list)
-    (either (ResolutionFault r) (ofSome (λ i. i < length list) (λ i. WantedFault n r (planOf n (n - g) (getD list i blank .columns)))))
+    (either (ResolutionFault r) (ofSome (λ i. i < length list) (λ i. WantedFault n r (ofDesign n g (getD list i blank) .plan))))
 
 abbrev pub wantedPlansFaults : ℕ → ℕ → ℕ → List ℕ → ℕ → Type 0
 wantedPlansFaults n g r bytes =
     either (plansFaults n g bytes)
-    (either (ResolutionFault r) (ofSome (HasPlan n bytes) (λ i. WantedFault n r (planOf n (n - g) (planAt n bytes i)))))
+    (either (ResolutionFault r) (ofSome (HasPlan n bytes) (λ i. WantedFault n r (ofColumns n g (planAt n bytes i) .plan))))

@@ -6,7 +6,7 @@ use mathlib.Core.List.{List}
 use native.Mathlib.Omega.{arith}
 use native.Mathlib.Decide.{decLt}
 use lib.ListN.{length}
-use Rattle.regular.specs.Refusals.{SizeFault, ResolutionFault, WordsFault, ColumnsFault, ListFault, RecordFault, TableFault, LentFault, either, Lowest, wordsFaults, runsFaults, designFaults, columnsFaults}
+use Rattle.regular.specs.Refusals.{SizeFault, ResolutionFault, WordsFault, ColumnsFault, ListFault, RecordFault, TableFault, LentFault, either, numbered, Lowest, wordsFaults, runsFaults, designFaults, columnsFaults}
 use Rattle.regular.specs.declared.Design.{Design}
 
 pub lowest-unique : (F : ℕ → Type 0) (a b : ℕ) → Lowest F a → Lowest F b → a ≡ b
@@ -25,6 +25,10 @@ none-lowest F l k f = omega (arith, l .least k f)
 -- a fault, and none below it
 pub lowest-at : (F : ℕ → Type 0) (r : ℕ) → 0 < r → F r → ((k : ℕ) → F k → r ≤ k) → Lowest F r
 lowest-at F r h f l = record { applies = λ p. f; least = λ k g. (h, l k g) }
+
+-- the number of an argument that was judged before
+pub lowest-numbered : (x : ℕ) → Lowest (numbered x) x
+lowest-numbered x = record { applies = λ p. (p, refl); least = λ k f. (omega (arith, f .0, f .1), omega (arith, f .1)) }
 
 -- the same faults
 pub lowest-same : (F H : ℕ → Type 0) (r : ℕ) → ((k : ℕ) → F k → H k) → ((k : ℕ) → H k → F k) → Lowest F r → Lowest H r

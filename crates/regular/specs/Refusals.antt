@@ -75,6 +75,10 @@ pub data RoomFault (n m r : ℕ) (room : ℕ → Type 0) : ℕ → Type 0 where
 abbrev pub either : (ℕ → Type 0) → (ℕ → Type 0) → ℕ → Type 0
 either f h k = f k ⊎ h k
 
+-- the fault of an argument that was judged before: its number, none if 0
+abbrev pub numbered : ℕ → ℕ → Type 0
+numbered x k = (0 < k) × (k ≡ x)
+
 -- the sizes and the wanted resolution
 abbrev pub sizeFaults : ℕ → ℕ → ℕ → ℕ → Type 0
 sizeFaults n g r = either (SizeFault n g) (ResolutionFault r)

@@ -32,9 +32,11 @@ pub struct Standardized {
     pub columns: [u8; 16],
 }
 
-// A refusal's number, 0 if accepted, and the plan's standard columns; sixteen zeros if refused.
+// A refusal's number, 0 if accepted, the run that the plan starts from, and the standard columns of the plan with that run switched to 0; all zero if
+// refused.
 pub struct Admitted {
     pub number: u8,
+    pub run: u16,
     pub columns: [u8; 16],
 }
 

@@ -8,27 +8,24 @@ use native.Mathlib.Nat.{mul-le-mul-right, suc-mul}
 use native.Mathlib.Omega.{arith}
 use lib.ListN.{length, getD, take, drop, length-append, length-drop, List·getD-append}
 use lib.Seq.{length-take-le, take-at, drop-at, drop-drop, getD-take, getD-drop, ext-getD}
-use Rattle.regular.specs.Columns.{planOf}
+use Rattle.regular.specs.Given.{ofColumns}
 use Rattle.regular.specs.PlanLists.{HasPlan, planAt, plansFaults, BytesFault}
 use Rattle.regular.specs.Refusals.{Lowest, columnsFaults}
 use Rattle.regular.specs.Accepted.{accepted-size}
 use Rattle.regular.specs.RefusalLaws.{lowest-none, none-lowest}
-use Rattle.regular.specs.Same.{Carries}
-use Rattle.regular.specs.Smallest.{Smallest}
-use Rattle.regular.specs.SmallestAnswers.{ReducesEach}
+use Rattle.regular.specs.SmallestAnswers.{Formed, ReducesEach, eachFaults}
 
 -- the smallest form of the plan of the columns, and a witness to it, in lists of n places
-pub record ReducedForm (n m : ℕ) (columns filled exit : List ℕ) : Type 0 where
-  pub smallest : Smallest n m (planOf n m columns) filled
-  pub witness : Carries n (planOf n m columns) (planOf n m filled) exit 0
+pub record ReducedForm (n g : ℕ) (columns filled exit : List ℕ) : Type 0 where
+  pub form : Formed n (n - g) (ofColumns n g columns) filled exit 0
   pub size : (length filled ≡ n) × (length exit ≡ n)
 
 -- .. of each plan in the first `base` places, the lists being untouched past them
-pub record ReducedTo (n m : ℕ) (plans : List ℕ) (base : ℕ) (out filled entry exit : List ℕ) : Type 0 where
+pub record ReducedTo (n g : ℕ) (plans : List ℕ) (base : ℕ) (out filled entry exit : List ℕ) : Type 0 where
   pub count : ℕ
   pub place : base ≡ count * n
   pub within : base ≤ length plans
-  pub each : (i : ℕ) → i < count → ReducedForm n m (planAt n plans i) (planAt n filled i) (planAt n exit i)
+  pub each : (i : ℕ) → i < count → ReducedForm n g (planAt n plans i) (planAt n filled i) (planAt n exit i)
   pub rest : (drop base filled ≡ drop base out) × (drop base exit ≡ drop base entry)
   pub size : (length filled ≡ length out) × (length exit ≡ length entry)
 
@@ -86,10 +83,10 @@ module _ (n g : ℕ) (plans : List ℕ) (low : Lowest (plansFaults n g plans) 0)
       never l whole q = by-cases (decLt count whole) (λ p. omega (arith, mul-le-mul-right {m = suc count} {n = whole} n p)) (λ p. omega (arith, h, mul-le-mul-right {m = whole} {n = count} n (omega arith)))
 
   module _ (out entry : List ℕ) (room : length plans ≤ length out) (place : length plans ≤ length entry) where
-    pub reduced-none : ReducedTo n (n - g) plans 0 out out entry entry
+    pub reduced-none : ReducedTo n g plans 0 out out entry entry
     reduced-none = record { count = 0; place = omega arith; within = omega arith; each = λ i h. absurd (omega arith); rest = (refl, refl); size = (refl, refl) }
 
-    module _ (base : ℕ) (filled exit : List ℕ) (t : ReducedTo n (n - g) plans base out filled entry exit) (h : base < length plans) where
+    module _ (base : ℕ) (filled exit : List ℕ) (t : ReducedTo n g plans base out filled entry exit) (h : base < length plans) where
       next : HasPlan n plans (t .count)
       next = plan-next base (t .count) (t .place) h
 
@@ -103,8 +100,8 @@ module _ (n g : ℕ) (plans : List ℕ) (low : Lowest (plansFaults n g plans) 0)
       reduced-accepted : Lowest (columnsFaults n g (take n (drop base plans))) 0
       reduced-accepted = subst (λ (b : ℕ). Lowest (columnsFaults n g (take n (drop b plans))) 0) (sym (t .place)) (plan-accepted (t .count) next)
 
-      reduced-more : (form names : List ℕ) → ReducedForm n (n - g) (take n (drop base plans)) form names
-          → ReducedTo n (n - g) plans (base + n) out (splice base n filled form) entry (splice base n exit names)
+      reduced-more : (form names : List ℕ) → ReducedForm n g (take n (drop base plans)) form names
+          → ReducedTo n g plans (base + n) out (splice base n filled form) entry (splice base n exit names)
       reduced-more form names r = record {
         count = suc (t .count);
         place = omega (arith, t .place, suc-mul (t .count) n);
@@ -120,21 +117,21 @@ module _ (n g : ℕ) (plans : List ℕ) (low : Lowest (plansFaults n g plans) 0)
           farther : (a b : List ℕ) → drop base a ≡ drop base b → drop (base + n) a ≡ drop (base + n) b
           farther a b e = sym (drop-drop n base a) ∙ ap (drop n) e ∙ drop-drop n base b
 
-          each : (i : ℕ) → i < suc (t .count) → ReducedForm n (n - g) (planAt n plans i) (planAt n (splice base n filled form) i) (planAt n (splice base n exit names) i)
+          each : (i : ℕ) → i < suc (t .count) → ReducedForm n g (planAt n plans i) (planAt n (splice base n filled form) i) (planAt n (splice base n exit names) i)
           each i l = by-cases (ℕ-discrete i (t .count)) last earlier
             where
-              last : i ≡ t .count → ReducedForm n (n - g) (planAt n plans i) (planAt n (splice base n filled form) i) (planAt n (splice base n exit names) i)
+              last : i ≡ t .count → ReducedForm n g (planAt n plans i) (planAt n (splice base n filled form) i) (planAt n (splice base n exit names) i)
               last q =
                   let at : base ≡ i * n = t .place ∙ ap (λ (k : ℕ). k * n) (sym q) in
-                  subst (λ (b : ℕ). ReducedForm n (n - g) (take n (drop b plans)) (take n (drop b (splice base n filled form))) (take n (drop b (splice base n exit names)))) at
-                  (subst (λ (c : List ℕ). ReducedForm n (n - g) (take n (drop base plans)) c (take n (drop base (splice base n exit names)))) (sym (splice-part base n filled form (reduced-fits .0) (r .size .0)))
-                  (subst (ReducedForm n (n - g) (take n (drop base plans)) form) (sym (splice-part base n exit names (reduced-fits .1) (r .size .1))) r))
+                  subst (λ (b : ℕ). ReducedForm n g (take n (drop b plans)) (take n (drop b (splice base n filled form))) (take n (drop b (splice base n exit names)))) at
+                  (subst (λ (c : List ℕ). ReducedForm n g (take n (drop base plans)) c (take n (drop base (splice base n exit names)))) (sym (splice-part base n filled form (reduced-fits .0) (r .size .0)))
+                  (subst (ReducedForm n g (take n (drop base plans)) form) (sym (splice-part base n exit names (reduced-fits .1) (r .size .1))) r))
 
-              earlier : (i ≡ t .count → ⊥) → ReducedForm n (n - g) (planAt n plans i) (planAt n (splice base n filled form) i) (planAt n (splice base n exit names) i)
+              earlier : (i ≡ t .count → ⊥) → ReducedForm n g (planAt n plans i) (planAt n (splice base n filled form) i) (planAt n (splice base n exit names) i)
               earlier ne =
                   let under : suc i * n ≤ base = omega (arith, t .place, mul-le-mul-right {m = suc i} {n = t .count} n (omega arith)) in
-                  subst (λ (c : List ℕ). ReducedForm n (n - g) (planAt n plans i) c (planAt n (splice base n exit names) i)) (sym (splice-plan n base filled form (reduced-fits .0) (r .size .0) i under))
-                  (subst (ReducedForm n (n - g) (planAt n plans i) (planAt n filled i)) (sym (splice-plan n base exit names (reduced-fits .1) (r .size .1) i under)) (t .each i (omega arith)))
+                  subst (λ (c : List ℕ). ReducedForm n g (planAt n plans i) c (planAt n (splice base n exit names) i)) (sym (splice-plan n base filled form (reduced-fits .0) (r .size .0) i under))
+                  (subst (ReducedForm n g (planAt n plans i) (planAt n filled i)) (sym (splice-plan n base exit names (reduced-fits .1) (r .size .1) i under)) (t .each i (omega arith)))
 
       -- a turn, on the k places from base on
       module _ (k : ℕ) (e : k ≡ n) where
@@ -144,30 +141,28 @@ module _ (n g : ℕ) (plans : List ℕ) (low : Lowest (plansFaults n g plans) 0)
         pub turn-place : (xs : List ℕ) → base + n ≤ length xs → length (take k (drop base xs)) ≡ n
         turn-place xs h = length-take-le k (drop base xs) (omega (arith, length-drop base xs)) ∙ e
 
-        pub turn-more : (form names : List ℕ) → ReducedForm n (n - g) (take k (drop base plans)) form names
-            → ReducedTo n (n - g) plans (base + n) out (splice base k filled form) entry (splice base k exit names)
+        pub turn-more : (form names : List ℕ) → ReducedForm n g (take k (drop base plans)) form names
+            → ReducedTo n g plans (base + n) out (splice base k filled form) entry (splice base k exit names)
         turn-more form names r =
-            subst (λ (j : ℕ). ReducedTo n (n - g) plans (base + n) out (splice base j filled form) entry (splice base j exit names)) (sym e)
-            (reduced-more form names (subst (λ (j : ℕ). ReducedForm n (n - g) (take j (drop base plans)) form names) e r))
+            subst (λ (j : ℕ). ReducedTo n g plans (base + n) out (splice base j filled form) entry (splice base j exit names)) (sym e)
+            (reduced-more form names (subst (λ (j : ℕ). ReducedForm n g (take j (drop base plans)) form names) e r))
 
 -- the call's answer
-pub each-refused : (fault : ℕ → Type 0) (n m : ℕ) (plans out entry : List ℕ) (k : ℕ) → (k ≡ 0 → ⊥) → Lowest fault k → ReducesEach fault n m plans out out entry entry k
-each-refused fault n m plans out entry k some low = record {
+pub each-refused : (n g : ℕ) (plans out entry : List ℕ) (k : ℕ) → (k ≡ 0 → ⊥) → Lowest (eachFaults n g plans out entry) k → ReducesEach n g plans out out entry entry k
+each-refused n g plans out entry k some low = record {
   lowest = low;
   untouched = λ _. (refl, refl);
-  columns = λ e. absurd (some e);
-  witness = λ e. absurd (some e);
+  form = λ e. absurd (some e);
   past = λ e. absurd (some e);
   size = (refl, refl);
 }
 
-pub each-reduced : (fault : ℕ → Type 0) (n m : ℕ) (plans out filled entry exit : List ℕ) → 1 ≤ n → Lowest fault 0 → ReducedTo n m plans (length plans) out filled entry exit
-    → ReducesEach fault n m plans out filled entry exit 0
-each-reduced fault n m plans out filled entry exit some low t = record {
+pub each-reduced : (n g : ℕ) (plans out filled entry exit : List ℕ) → 1 ≤ n → Lowest (eachFaults n g plans out entry) 0
+    → ReducedTo n g plans (length plans) out filled entry exit → ReducesEach n g plans out filled entry exit 0
+each-reduced n g plans out filled entry exit some low t = record {
   lowest = low;
   untouched = λ h. absurd (omega arith);
-  columns = λ _ i h. t .each i (inside i h) .smallest;
-  witness = λ _ i h. t .each i (inside i h) .witness;
+  form = λ _ i h. t .each i (inside i h) .form;
   past = λ _. t .rest;
   size = t .size;
 }

@@ -13,9 +13,6 @@ use Rattle.plan_lists.specs.Accepted.{records-most as wanted-records-most, plan
 use Rattle.plan_lists.specs.Judging.{three-plans}
 use Rattle.lent.specs.Lending.{Lending, lending-lowest}
 
-pub records-most : (n g : ℕ) (list : List Design) (k : ℕ) → recordsFaults n g list k → k ≤ 8
-records-most n g list k f = omega (arith, wanted-records-most n g 3 list k (inl f))
-
 plans-most : (n g : ℕ) (bytes : List ℕ) (k : ℕ) → plansFaults n g bytes k → k ≤ 8
 plans-most n g bytes k f = omega (arith, wanted-plans-most n g 3 bytes k (inl f))
 

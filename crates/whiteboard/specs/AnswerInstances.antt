@@ -11,11 +11,13 @@ use Rattle.gf2.specs.Counts.{Count}
 use Rattle.regular.specs.Runs.{Runs, runsOf}
 use Rattle.regular.specs.Words.{Word, Generated, letters}
 use Rattle.regular.specs.Columns.{planOf}
-use Rattle.regular.specs.Pattern.{Pattern, Resolution, LessAberration, ofLength}
-use Rattle.regular.specs.Refusals.{LentFault, either, wordsFaults, runsFaults, columnsFaults, Lowest, Gives, Fills, Chooses, HandsBack}
+use Rattle.regular.specs.Pattern.{Pattern, ofLength}
+use Rattle.regular.specs.Refusals.{LentFault, either, wordsFaults, runsFaults, columnsFaults, Lowest, Chooses}
 use Rattle.regular.specs.RefusalLaws.{lowest-then, lowest-first, lowest-unique, lent-fits, lent-short}
 use Rattle.regular.specs.Same.{moved}
-use Rattle.regular.specs.Comparisons.{Differ, Compares, Witness, Checks, Told, comparedNumber, checkedNumber}
+use Rattle.regular.specs.Comparisons.{Differ, Compares, Witness, Checks, ChecksWitness, Told, comparedNumber, checkedNumber}
+use Rattle.regular.specs.Given.{Given, ofWords, ofColumns, ofRuns}
+use Rattle.regular.specs.Measures.{ResolutionOf, PatternInto, ChoosesLess, HandsBackLess}
 use Rattle.regular.specs.declared.Compared.{Compared}
 use Rattle.regular.specs.declared.Checked.{Checked}
 use Rattle.isomorphism_laws.specs.Moving.{carries-names}
@@ -26,11 +28,18 @@ use Rattle.whiteboard.specs.Samples.{abc, abcd, words-abc}
 use Rattle.whiteboard.specs.Tests.{below, agree-at}
 use Rattle.whiteboard.specs.Whiteboard.{wordsP, wordsQ, whiteboard}
 
+-- a plan that starts from its first run, and not from another
+pub start-disguised : ofRuns 4 1 disguised .start 3
+start-disguised = refl
+
+pub not-start : ofRuns 4 1 disguised .start 0 → ⊥
+not-start e = omega (arith, e)
+
 -- a number and a value: the resolution of ABC, and of AB, which is refused
-pub gives-resolution : Gives (wordsFaults 4 1 (7 ∷ [])) (Resolution 4 (Generated 4 1 (7 ∷ []))) 0 0 3
+pub gives-resolution : ResolutionOf 4 (ofWords 4 1 (7 ∷ [])) 0 3
 gives-resolution = record { number = accepted-words; refused = λ h. absurd (omega arith); result = λ e. words-abc .resolution }
 
-pub gives-refused : Gives (wordsFaults 3 1 (3 ∷ [])) (Resolution 3 (Generated 3 1 (3 ∷ []))) 0 7 0
+pub gives-refused : ResolutionOf 3 (ofWords 3 1 (3 ∷ [])) 7 0
 gives-refused = record { number = refusal-7; refused = λ h. refl; result = λ e. absurd (omega arith) }
 
 -- a lent list: the pattern of ABC in the first four of five places, and a list too short
@@ -40,7 +49,7 @@ pattern-first n s p q e h = record { counts = λ l a b. subst (Count (λ w. Word
 abbrev pub five : List ℕ
 five = 9 ∷ 9 ∷ 9 ∷ 9 ∷ 9 ∷ []
 
-pub fills-pattern : Fills (either (columnsFaults 4 1 abc) (LentFault 4 five)) 4 (Pattern 4 (planOf 4 3 abc)) five (0 ∷ 0 ∷ 1 ∷ 0 ∷ 9 ∷ []) 0
+pub fills-pattern : PatternInto 4 (ofColumns 4 1 abc) five (0 ∷ 0 ∷ 1 ∷ 0 ∷ 9 ∷ []) 0
 unfolding below
 fills-pattern = record {
   number = lowest-then (columnsFaults 4 1 abc) (LentFault 4 five) 0 accepted-columns (lent-fits 4 five (omega arith));
@@ -51,7 +60,7 @@ fills-pattern = record {
   size = refl;
 }
 
-pub fills-refused : Fills (either (columnsFaults 4 1 abc) (LentFault 4 (9 ∷ 9 ∷ []))) 4 (Pattern 4 (planOf 4 3 abc)) (9 ∷ 9 ∷ []) (9 ∷ 9 ∷ []) 8
+pub fills-refused : PatternInto 4 (ofColumns 4 1 abc) (9 ∷ 9 ∷ []) (9 ∷ 9 ∷ []) 8
 fills-refused = record {
   number = lowest-then (columnsFaults 4 1 abc) (LentFault 4 (9 ∷ 9 ∷ [])) 8 accepted-columns (lent-short 4 (9 ∷ 9 ∷ []) (omega arith));
   refused = λ h. refl;
@@ -61,25 +70,24 @@ fills-refused = record {
 }
 
 -- the better of two lists of words: ABCD after ABC is chosen, ABC after ABCD is not, AB is refused
-pub chooses-second : Chooses (either (wordsFaults 4 1 (7 ∷ [])) (wordsFaults 4 1 (15 ∷ []))) (LessAberration 4 3 (Generated 4 1 (15 ∷ [])) (Generated 4 1 (7 ∷ []))) 2
+pub chooses-second : ChoosesLess 4 3 (ofWords 4 1 (7 ∷ [])) (ofWords 4 1 (15 ∷ [])) 2
 chooses-second = Chooses.second (lowest-then (wordsFaults 4 1 (7 ∷ [])) (wordsFaults 4 1 (15 ∷ [])) 0 accepted-words accepted-word-abcd) less-abcd
 
-pub chooses-first : Chooses (either (wordsFaults 4 1 (15 ∷ [])) (wordsFaults 4 1 (7 ∷ []))) (LessAberration 4 3 (Generated 4 1 (7 ∷ [])) (Generated 4 1 (15 ∷ []))) 1
+pub chooses-first : ChoosesLess 4 3 (ofWords 4 1 (15 ∷ [])) (ofWords 4 1 (7 ∷ [])) 1
 chooses-first = Chooses.first (lowest-then (wordsFaults 4 1 (15 ∷ [])) (wordsFaults 4 1 (7 ∷ [])) 0 accepted-word-abcd accepted-words) not-less
 
 -- two arguments with one list of faults
 twice : (F : ℕ → Type 0) (r : ℕ) → 0 < r → Lowest F r → Lowest (either F F) r
 twice F r h l = lowest-first F F r h l (λ k f. l .least k f .1)
 
-pub chooses-refused : Chooses (either (wordsFaults 3 1 (3 ∷ [])) (wordsFaults 3 1 (3 ∷ []))) (LessAberration 3 2 (Generated 3 1 (3 ∷ [])) (Generated 3 1 (3 ∷ []))) 0
+pub chooses-refused : ChoosesLess 3 2 (ofWords 3 1 (3 ∷ [])) (ofWords 3 1 (3 ∷ [])) 0
 chooses-refused = Chooses.refused 7 (omega arith) (twice (wordsFaults 3 1 (3 ∷ [])) 7 (omega arith) refusal-7)
 
 -- a list lent from a place
 abbrev lentAt : ℕ → List ℕ → RefT (List ℕ)
 lentAt place list = record { ptr = (place, 0); name = place; now = list }
 
-pub hands-second : HandsBack (either (wordsFaults 4 1 (7 ∷ [])) (wordsFaults 4 1 (15 ∷ []))) (LessAberration 4 3 (Generated 4 1 (15 ∷ [])) (Generated 4 1 (7 ∷ [])))
-    (lentAt 1 (7 ∷ [])) (lentAt 2 (15 ∷ [])) (lentAt 2 (15 ∷ []))
+pub hands-second : HandsBackLess 4 3 (ofWords 4 1 (7 ∷ [])) (ofWords 4 1 (15 ∷ [])) (lentAt 1 (7 ∷ [])) (lentAt 2 (15 ∷ [])) (lentAt 2 (15 ∷ []))
 hands-second = record {
   better = λ l b. refl;
   otherwise = λ l n. absurd (n less-abcd);
@@ -93,8 +101,7 @@ hands-second = record {
     accepted : Lowest both 0
     accepted = lowest-then (wordsFaults 4 1 (7 ∷ [])) (wordsFaults 4 1 (15 ∷ [])) 0 accepted-words accepted-word-abcd
 
-pub hands-empty : HandsBack (either (wordsFaults 3 1 (3 ∷ [])) (wordsFaults 3 1 (3 ∷ []))) (LessAberration 3 2 (Generated 3 1 (3 ∷ [])) (Generated 3 1 (3 ∷ [])))
-    (lentAt 1 (3 ∷ [])) (lentAt 2 (3 ∷ [])) (lentAt 1 [])
+pub hands-empty : HandsBackLess 3 2 (ofWords 3 1 (3 ∷ [])) (ofWords 3 1 (3 ∷ [])) (lentAt 1 (3 ∷ [])) (lentAt 2 (3 ∷ [])) (lentAt 1 [])
 hands-empty = record {
   better = λ l b. absurd (omega (arith, lowest-unique both 0 7 l refused));
   otherwise = λ l n. absurd (omega (arith, lowest-unique both 0 7 l refused));
@@ -123,38 +130,39 @@ differ-nowhere = whiteboard .1 .1 .1 .1 .1 .1 .1 .0 .length
 abbrev pub names : List ℕ
 names = 1 ∷ 2 ∷ 3 ∷ 0 ∷ 9 ∷ []
 
-abbrev pub tablesFaults : ℕ → Type 0
-tablesFaults = either (either (runsFaults 4 1 runsABC) (runsFaults 4 1 disguised)) (LentFault 4 five)
+abbrev pub tableABC : Given
+tableABC = ofRuns 4 1 runsABC
+
+abbrev pub tableDisguised : Given
+tableDisguised = ofRuns 4 1 disguised
 
 accepted-tables : Lowest (either (runsFaults 4 1 runsABC) (runsFaults 4 1 disguised)) 0
 accepted-tables = lowest-then (runsFaults 4 1 runsABC) (runsFaults 4 1 disguised) 0 accepted-runs accepted-disguised
 
-pub compares-same : Compares tablesFaults 4 (runsOf runsABC) (runsOf disguised) (λ mask. mask < 16) five names (Compared.Same 9)
+pub compares-same : Compares 4 tableABC tableDisguised five names (Compared.Same 9)
 unfolding below
 compares-same =
     Compares.same 9
     (lowest-then (either (runsFaults 4 1 runsABC) (runsFaults 4 1 disguised)) (LentFault 4 five) 0 accepted-tables (lent-fits 4 five (omega arith)))
     (carries-names 4 (runsOf runsABC) (runsOf disguised) (1 ∷ 2 ∷ 3 ∷ 0 ∷ []) names 9
     (agree-at (λ f. getD names f 0) (λ f. getD (1 ∷ 2 ∷ 3 ∷ 0 ∷ []) f 0) 4 refl) (witness-disguised .carries))
-    (omega arith) refl refl
+    (λ from to. absurd (omega (arith, to))) refl refl
 
-pub compares-different : Compares (either (either (columnsFaults 4 1 abc) (columnsFaults 4 1 abcd)) (LentFault 4 five)) 4 (planOf 4 3 abc) (planOf 4 3 abcd) (λ mask. mask ≡ 0)
-    five five (Compared.Different 3)
+pub compares-different : Compares 4 (ofColumns 4 1 abc) (ofColumns 4 1 abcd) five five (Compared.Different 3)
 compares-different =
     Compares.different 3
     (lowest-then (either (columnsFaults 4 1 abc) (columnsFaults 4 1 abcd)) (LentFault 4 five) 0
     (lowest-then (columnsFaults 4 1 abc) (columnsFaults 4 1 abcd) 0 accepted-columns accepted-abcd) (lent-fits 4 five (omega arith)))
     different-abc-abcd differ-at refl
 
-pub compares-refused : Compares (either (either (columnsFaults 5 1 (1 ∷ 2 ∷ 3 ∷ 4 ∷ 8 ∷ [])) (columnsFaults 5 1 (1 ∷ 2 ∷ 4 ∷ 7 ∷ 8 ∷ []))) (LentFault 5 (0 ∷ 0 ∷ 0 ∷ 0 ∷ []))) 5
-    (planOf 5 4 (1 ∷ 2 ∷ 3 ∷ 4 ∷ 8 ∷ [])) (planOf 5 4 (1 ∷ 2 ∷ 4 ∷ 7 ∷ 8 ∷ [])) (λ mask. mask ≡ 0) (0 ∷ 0 ∷ 0 ∷ 0 ∷ []) (0 ∷ 0 ∷ 0 ∷ 0 ∷ []) (Compared.Refused 8)
+pub compares-refused : Compares 5 (ofColumns 5 1 (1 ∷ 2 ∷ 3 ∷ 4 ∷ 8 ∷ [])) (ofColumns 5 1 (1 ∷ 2 ∷ 4 ∷ 7 ∷ 8 ∷ [])) (0 ∷ 0 ∷ 0 ∷ 0 ∷ []) (0 ∷ 0 ∷ 0 ∷ 0 ∷ []) (Compared.Refused 8)
 compares-refused = Compares.refused 8 (omega arith) refusal-8 refl
 
 -- the check of a witness: with its mask, without it, and between runs that are not regular
 abbrev pub Claimed : ℕ → Type 0
-Claimed = Witness 4 runsABC disguised (1 ∷ 2 ∷ 3 ∷ 0 ∷ [])
+Claimed = Witness 4 (runsOf runsABC) (runsOf disguised) (1 ∷ 2 ∷ 3 ∷ 0 ∷ [])
 
-pub checks-yes : Checks (either (runsFaults 4 1 runsABC) (runsFaults 4 1 disguised)) (Claimed 9) Checked.Yes
+pub checks-yes : ChecksWitness 4 tableABC tableDisguised (1 ∷ 2 ∷ 3 ∷ 0 ∷ []) 9 Checked.Yes
 checks-yes = Checks.yes accepted-tables witness-disguised
 
 pub checks-no : Checks (either (runsFaults 4 1 runsABC) (runsFaults 4 1 disguised)) (Claimed 0) Checked.No
@@ -165,7 +173,7 @@ pub checks-refused : Checks (either (runsFaults 3 1 (0 ∷ 1 ∷ 2 ∷ 4 ∷ [])
 checks-refused = Checks.refused 6 (omega arith) (twice (runsFaults 3 1 (0 ∷ 1 ∷ 2 ∷ 4 ∷ [])) 6 (omega arith) refused-runs)
 
 -- the same as plain numbers
-pub told-same : Told (Compares tablesFaults 4 (runsOf runsABC) (runsOf disguised) (λ mask. mask < 16) five names) comparedNumber 65545
+pub told-same : Told (Compares 4 tableABC tableDisguised five names) comparedNumber 65545
 told-same = record { answer = Compared.Same 9; says = compares-same; is = refl }
 
 pub told-no : Told (Checks (either (runsFaults 4 1 runsABC) (runsFaults 4 1 disguised)) (Claimed 0)) checkedNumber 131072

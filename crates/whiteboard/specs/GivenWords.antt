@@ -23,7 +23,7 @@ use Rattle.words.specs.WordList.{wordsTo}
 use Rattle.counts.specs.WordCounts.{word-count}
 
 -- g independent words of at most 16 factors
-pub record Given (n g : ℕ) (ws : List ℕ) : Type 0 where
+pub record WordsGiven (n g : ℕ) (ws : List ℕ) : Type 0 where
   pub few : n ≤ 16
   pub less : g ≤ n
   pub within : (i : ℕ) → i < g → getD ws i 0 < 2 ^ n
@@ -33,7 +33,7 @@ pub record Given (n g : ℕ) (ws : List ℕ) : Type 0 where
 abbrev pub wordList : ℕ → List ℕ → List ℕ
 wordList g ws = image (λ t. total ws g (suc t)) (upto (2 ^ g - 1))
 
-module _ (n g : ℕ) (ws : List ℕ) (given : Given n g ws) where
+module _ (n g : ℕ) (ws : List ℕ) (given : WordsGiven n g ws) where
   abbrev plan : Runs
   plan = Generated n g ws
 

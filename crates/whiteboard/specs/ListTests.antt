@@ -14,7 +14,7 @@ use Rattle.gf2.specs.Members.{In, Different}
 use Rattle.gf2.specs.Places.{different-once}
 use Rattle.gf2.specs.Truth.{and-both, or-cases, or-left, or-right, clash}
 use Rattle.regular.specs.Comparisons.{Witness}
-use Rattle.regular.specs.Runs.{Table}
+use Rattle.regular.specs.Runs.{Table, runsOf}
 use Rattle.regular.specs.Same.{Renaming, sent}
 use Rattle.whiteboard.specs.Tests.{every, passed, below, below-at}
 
@@ -78,7 +78,7 @@ abbrev pub carried : ℕ → List ℕ → List ℕ → List ℕ → ℕ → List
 carried n t u p mask =
     every (named n p) ∷ ltb mask (2 ^ n) ∷ all (λ x. among (sent n p mask x) u) t ∷ all (λ y. among y (image (sent n p mask) t)) u ∷ []
 
-pub carried-witness : (n : ℕ) (t u p : List ℕ) (mask : ℕ) → every (carried n t u p mask) ≡ true → Witness n t u p mask
+pub carried-witness : (n : ℕ) (t u p : List ℕ) (mask : ℕ) → every (carried n t u p mask) ≡ true → Witness n (runsOf t) (runsOf u) p mask
 carried-witness n t u p mask e =
     let r = passed (carried n t u p mask) e in
     record {

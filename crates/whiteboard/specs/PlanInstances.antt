@@ -301,7 +301,7 @@ runsB = 4 ∷ 29 ∷ 30 ∷ 7 ∷ 16 ∷ 9 ∷ 10 ∷ 19 ∷ []
 abbrev pub namesAB : List ℕ
 namesAB = 3 ∷ 0 ∷ 4 ∷ 1 ∷ 2 ∷ []
 
-pub witness-000 : Witness 5 runsA runsB namesAB 4
+pub witness-000 : Witness 5 (runsOf runsA) (runsOf runsB) namesAB 4
 unfolding below among all distinct moved
 witness-000 = carried-witness 5 runsA runsB namesAB 4 refl
 
@@ -312,7 +312,7 @@ same-000 = record { names = namesAB; mask = 4; carries = witness-000 .carries }
 pub not-renaming : Renaming 4 (0 ∷ 0 ∷ 1 ∷ 2 ∷ []) → ⊥
 not-renaming r = omega (arith, r .once 0 1 (omega arith) (omega arith) refl)
 
-pub not-witness : Witness 5 runsA runsB namesAB 0 → ⊥
+pub not-witness : Witness 5 (runsOf runsA) (runsOf runsB) namesAB 0 → ⊥
 unfolding among moved
 not-witness w = not-among 0 runsB refl (w .carries .into 0 (inl refl))
 
@@ -356,7 +356,7 @@ pub table-disguised : Table 4 3 disguised
 unfolding among all distinct
 table-disguised = tabled-table 4 3 disguised refl
 
-pub witness-disguised : Witness 4 runsABC disguised (1 ∷ 2 ∷ 3 ∷ 0 ∷ []) 9
+pub witness-disguised : Witness 4 (runsOf runsABC) (runsOf disguised) (1 ∷ 2 ∷ 3 ∷ 0 ∷ []) 9
 unfolding below among all distinct moved
 witness-disguised = carried-witness 4 runsABC disguised (1 ∷ 2 ∷ 3 ∷ 0 ∷ []) 9 refl
 

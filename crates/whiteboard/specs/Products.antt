@@ -22,7 +22,7 @@ use Rattle.regular.specs.Words.{Word, Generated, letters}
 use Rattle.standard.specs.Model.{choose}
 use Rattle.isomorphism_laws.specs.LetterCounts.{Holding, holding-equal}
 use Rattle.isomorphism_laws.specs.Renamings.{moved-is, letters-moved}
-use Rattle.whiteboard.specs.GivenWords.{Given, wordList, list-different, list-word, word-list}
+use Rattle.whiteboard.specs.GivenWords.{WordsGiven, wordList, list-different, list-word, word-list}
 use Rattle.whiteboard.specs.Tests.{those, those-in, those-of, those-different}
 
 -- the product of a list of sets of factors
@@ -42,7 +42,7 @@ pub record Multiply (n : ℕ) (s : Runs) (l v : ℕ) : Type 0 where
 abbrev pub ofLetters : ℕ → List ℕ → ℕ → List ℕ
 ofLetters g ws l = those (λ w. eqb (letters w) l) (wordList g ws)
 
-pub given-multiply : (n g : ℕ) (ws : List ℕ) → Given n g ws → (l : ℕ) → Multiply n (Generated n g ws) l (product (ofLetters g ws l))
+pub given-multiply : (n g : ℕ) (ws : List ℕ) → WordsGiven n g ws → (l : ℕ) → Multiply n (Generated n g ws) l (product (ofLetters g ws l))
 given-multiply n g ws given l =
     let t : ℕ → Bool = λ w. eqb (letters w) l in
     record {

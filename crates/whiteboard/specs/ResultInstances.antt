@@ -1,5 +1,5 @@
 -- Instances of what calls write: the smallest form with its witness and place, and several plans in one list; accepted and refused.
-use mathlib.Core.Path.{_≡_, refl, sym, ap, subst}
+use mathlib.Core.Path.{_≡_, refl, sym, ap, subst, _∙_}
 use mathlib.Core.Logic.{⊎-elim, by-cases}
 use mathlib.Core.List.{List, [], _∷_, _++_}
 use Prim.Native.Nat.{ℕ, _<_}
@@ -18,7 +18,9 @@ use Rattle.regular.specs.Refusals.{LentFault, either, runsFaults, columnsFaults
 use Rattle.regular.specs.Runs.{runsOf}
 use Rattle.regular.specs.Same.{moved, Carries}
 use Rattle.regular.specs.Smallest.{Equal, Smallest}
-use Rattle.regular.specs.SmallestAnswers.{FirstPlace, DesignPlace, ColumnsPlace, Reduces, ReducesInto, ReducesEach}
+use Rattle.regular.specs.SmallestAnswers.{FirstPlace, DesignPlace, ColumnsPlace, Formed, ReducesAmong, ReducesInto, ReducesEach}
+use Rattle.regular.specs.Given.{ofColumns, ofRuns}
+use Rattle.isomorphism_laws.specs.Renamings.{moved-zero}
 use Rattle.regular.specs.declared.Design.{Design}
 use Rattle.isomorphism_laws.specs.Moving.{carries-names}
 use Rattle.isomorphism_laws.specs.SamePlan.{carries-agree, carries-refl}
@@ -85,9 +87,16 @@ records-none k f =
 accepted-reduction : Lowest (either (runsFaults 4 1 disguised) (recordsFaults 4 1 records)) 0
 accepted-reduction = lowest-then (runsFaults 4 1 disguised) (recordsFaults 4 1 records) 0 accepted-disguised (lowest-none (recordsFaults 4 1 records) records-none)
 
-pub reduces : Reduces (either (either (runsFaults 4 1 disguised) (recordsFaults 4 1 records)) (LentFault 4 five)) 4 3 (runsOf disguised)
-    (λ mask. mask ≡ moved (3 ∷ 0 ∷ 1 ∷ 2 ∷ 9 ∷ []) 4 3) records five (3 ∷ 0 ∷ 1 ∷ 2 ∷ 9 ∷ [])
-    (record { number = 0; mask = 9; place = 2; design = recordABC })
+pub formed-disguised : Formed 4 3 (ofRuns 4 1 disguised) (recordABC .columns) (3 ∷ 0 ∷ 1 ∷ 2 ∷ 9 ∷ []) 9
+unfolding below moved
+formed-disguised = record {
+  smallest = smallest-disguised;
+  witness = carries-names 4 (runsOf disguised) (planOf 4 3 (recordABC .columns)) names (3 ∷ 0 ∷ 1 ∷ 2 ∷ 9 ∷ []) 9
+      (agree-at (λ f. getD (3 ∷ 0 ∷ 1 ∷ 2 ∷ 9 ∷ []) f 0) (λ f. getD names f 0) 4 refl) witness-back;
+  start = λ x e. ap (moved (3 ∷ 0 ∷ 1 ∷ 2 ∷ 9 ∷ []) 4) (sym e);
+}
+
+pub reduces : ReducesAmong 4 1 (ofRuns 4 1 disguised) records five (3 ∷ 0 ∷ 1 ∷ 2 ∷ 9 ∷ []) (record { number = 0; mask = 9; place = 2; design = recordABC })
 unfolding below moved
 reduces = record {
   number = lowest-then (either (runsFaults 4 1 disguised) (recordsFaults 4 1 records)) (LentFault 4 five) 0 accepted-reduction (lent-fits 4 five (omega arith));
@@ -95,17 +104,13 @@ reduces = record {
   no-mask = λ h. absurd (omega arith);
   no-place = λ h. absurd (omega arith);
   untouched = λ h. absurd (omega arith);
-  design = λ e. record { factors = refl; basics = refl; columns = smallest-disguised; unused = holds-abc .unused };
-  witness = λ e. carries-names 4 (runsOf disguised) (planOf 4 3 (recordABC .columns)) names (3 ∷ 0 ∷ 1 ∷ 2 ∷ 9 ∷ []) 9
-      (agree-at (λ f. getD (3 ∷ 0 ∷ 1 ∷ 2 ∷ 9 ∷ []) f 0) (λ f. getD names f 0) 4 refl) witness-back;
-  mask = λ e. refl;
+  design = λ e. record { factors = refl; basics = refl; columns = formed-disguised; unused = holds-abc .unused };
   place = λ e. place-found;
   past = λ e. refl;
   size = refl;
 }
 
-pub reduces-refused : Reduces (either (either (runsFaults 4 1 disguised) (recordsFaults 4 1 records)) (LentFault 4 (9 ∷ 9 ∷ []))) 4 3 (runsOf disguised)
-    (λ mask. mask ≡ moved (9 ∷ 9 ∷ []) 4 3) records (9 ∷ 9 ∷ []) (9 ∷ 9 ∷ []) (record { number = 8; mask = 0; place = 0; design = blank })
+pub reduces-refused : ReducesAmong 4 1 (ofRuns 4 1 disguised) records (9 ∷ 9 ∷ []) (9 ∷ 9 ∷ []) (record { number = 8; mask = 0; place = 0; design = blank })
 reduces-refused = record {
   number = lowest-then (either (runsFaults 4 1 disguised) (recordsFaults 4 1 records)) (LentFault 4 (9 ∷ 9 ∷ [])) 8 accepted-reduction (lent-short 4 (9 ∷ 9 ∷ []) (omega arith));
   blank-design = λ h. refl;
@@ -113,8 +118,6 @@ reduces-refused = record {
   no-place = λ h. refl;
   untouched = λ h. refl;
   design = λ e. absurd (omega arith);
-  witness = λ e. absurd (omega arith);
-  mask = λ e. absurd (omega arith);
   place = λ e. absurd (omega arith);
   past = λ e. refl;
   size = refl;
@@ -171,10 +174,8 @@ pub columns-place : ColumnsPlace 4 plans filled 2
 columns-place = FirstPlace.found 1 (omega arith) equal-filled (λ j l e. let z : j ≡ 0 = omega arith in
     omega (arith, subst (λ (i : ℕ). Equal 4 (planAt 4 plans i) filled) z e 2 (omega arith)))
 
-abbrev pub intoFaults : List ℕ → ℕ → Type 0
-intoFaults out = either (either (columnsFaults 4 1 abc) (either (plansFaults 4 1 plans) (LentFault 4 out))) (LentFault 4 five)
-
-pub reduces-into : ReducesInto (intoFaults five) 4 3 (planOf 4 3 abc) (λ mask. mask ≡ 0) plans five filled five own 0 0 2
+pub reduces-into : ReducesInto 4 1 (ofColumns 4 1 abc) plans five filled five own 0 0 2
+unfolding moved
 reduces-into = record {
   lowest = lowest-then (either (columnsFaults 4 1 abc) (either (plansFaults 4 1 plans) (LentFault 4 five))) (LentFault 4 five) 0
       (lowest-then (columnsFaults 4 1 abc) (either (plansFaults 4 1 plans) (LentFault 4 five)) 0 accepted-columns
@@ -183,15 +184,17 @@ reduces-into = record {
   no-mask = λ h. absurd (omega arith);
   no-place = λ h. absurd (omega arith);
   untouched = λ h. absurd (omega arith);
-  columns = λ e. smallest-equal 4 3 abc filled equal-filled (planOf 4 3 abc) smallest-abc;
-  witness = λ e. own-carries abc filled equal-filled;
-  masks = λ e. refl;
+  form = λ e. record {
+    smallest = smallest-equal 4 3 abc filled equal-filled (planOf 4 3 abc) smallest-abc;
+    witness = own-carries abc filled equal-filled;
+    start = λ x q. ap (moved own 4) (sym q);
+  };
   found = λ e. columns-place;
   past = λ e. (refl, refl);
   size = (refl, refl);
 }
 
-pub reduces-into-refused : ReducesInto (intoFaults (9 ∷ 9 ∷ [])) 4 3 (planOf 4 3 abc) (λ mask. mask ≡ 0) plans (9 ∷ 9 ∷ []) (9 ∷ 9 ∷ []) five five 8 0 0
+pub reduces-into-refused : ReducesInto 4 1 (ofColumns 4 1 abc) plans (9 ∷ 9 ∷ []) (9 ∷ 9 ∷ []) five five 8 0 0
 reduces-into-refused = record {
   lowest = lowest-first (either (columnsFaults 4 1 abc) (either (plansFaults 4 1 plans) (LentFault 4 (9 ∷ 9 ∷ [])))) (LentFault 4 five) 8 (omega arith)
       (lowest-then (columnsFaults 4 1 abc) (either (plansFaults 4 1 plans) (LentFault 4 (9 ∷ 9 ∷ []))) 8 accepted-columns
@@ -200,9 +203,7 @@ reduces-into-refused = record {
   no-mask = λ h. refl;
   no-place = λ h. refl;
   untouched = λ h. (refl, refl);
-  columns = λ e. absurd (omega arith);
-  witness = λ e. absurd (omega arith);
-  masks = λ e. absurd (omega arith);
+  form = λ e. absurd (omega arith);
   found = λ e. absurd (omega arith);
   past = λ e. (refl, refl);
   size = (refl, refl);
@@ -215,16 +216,21 @@ zeros8 = 0 ∷ 0 ∷ 0 ∷ 0 ∷ 0 ∷ 0 ∷ 0 ∷ 0 ∷ []
 abbrev owns : List ℕ
 owns = 0 ∷ 1 ∷ 2 ∷ 3 ∷ 0 ∷ 1 ∷ 2 ∷ 3 ∷ []
 
-pub reduces-each : ReducesEach (either (either (plansFaults 4 1 plans) (LentFault 8 zeros8)) (LentFault 8 zeros8)) 4 3 plans zeros8 plans zeros8 owns 0
+pub reduces-each : ReducesEach 4 1 plans zeros8 plans zeros8 owns 0
 unfolding below
 reduces-each = record {
   lowest = lowest-then (either (plansFaults 4 1 plans) (LentFault 8 zeros8)) (LentFault 8 zeros8) 0
       (lowest-then (plansFaults 4 1 plans) (LentFault 8 zeros8) 0 (lowest-none (plansFaults 4 1 plans) plans-none) (lent-fits 8 zeros8 (omega arith)))
       (lent-fits 8 zeros8 (omega arith));
   untouched = λ h. absurd (omega arith);
-  columns = λ e i h. each-plan (λ c. Smallest 4 3 (planOf 4 3 c) c) (catalogue-4 .sound 1 (omega arith) .smallest) smallest-abc i h;
-  witness = λ e i h. carries-names 4 (planOf 4 3 (planAt 4 plans i)) (planOf 4 3 (planAt 4 plans i)) own (planAt 4 owns i) 0
-      (names-at i h) (own-carries (planAt 4 plans i) (planAt 4 plans i) (λ f l. refl));
+  form = λ e i h.
+      let w = carries-names 4 (planOf 4 3 (planAt 4 plans i)) (planOf 4 3 (planAt 4 plans i)) own (planAt 4 owns i) 0
+      (names-at i h) (own-carries (planAt 4 plans i) (planAt 4 plans i) (λ f l. refl)) in
+      record {
+        smallest = each-plan (λ c. Smallest 4 3 (planOf 4 3 c) c) (catalogue-4 .sound 1 (omega arith) .smallest) smallest-abc i h;
+        witness = w;
+        start = λ x q. sym (moved-zero 4 (planAt 4 owns i) (w .renaming)) ∙ ap (moved (planAt 4 owns i) 4) (sym q);
+      };
   past = λ e. (refl, refl);
   size = (refl, refl);
 }

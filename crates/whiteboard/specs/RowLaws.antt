@@ -25,7 +25,7 @@ use Rattle.counts.specs.Tally.{tally}
 use Rattle.counts.specs.WordCounts.{length-count}
 use Rattle.catalogue_laws.specs.Listing.{model-catalogue}
 use Rattle.catalogue_laws.specs.Model.{entries}
-use Rattle.whiteboard.specs.GivenWords.{Given, given-standard, given-generators}
+use Rattle.whiteboard.specs.GivenWords.{WordsGiven, given-standard, given-generators}
 use Rattle.whiteboard.specs.Products.{given-multiply, Multiply, multiply-same, product, ofLetters}
 use Rattle.whiteboard.specs.Rows.{Row, RunsRow, WordsRow, DifferentRow, CatalogueRow, Says, given, counts, tests, AllTrue, allPass}
 use Rattle.whiteboard.specs.Tests.{every, Passed, passed, below-at, agree-at, only-zero, alike, alike-is}
@@ -48,7 +48,7 @@ runs-true n m c t d e =
     }
 
 -- what the tests of words and of a pattern say
-is-given : (n g : ℕ) (ws : List ℕ) → every (given n g ws) ≡ true → Given n g ws
+is-given : (n g : ℕ) (ws : List ℕ) → every (given n g ws) ≡ true → WordsGiven n g ws
 is-given n g ws e =
     let p = passed (given n g ws) e in
     record {
@@ -58,7 +58,7 @@ is-given n g ws e =
       independent = only-zero (total ws g) (2 ^ g) (p .1 .1 .1 .0);
     }
 
-is-pattern : (n g : ℕ) (ws p : List ℕ) → Given n g ws → counts n g ws p ≡ true → Pattern n (Generated n g ws) p
+is-pattern : (n g : ℕ) (ws p : List ℕ) → WordsGiven n g ws → counts n g ws p ≡ true → Pattern n (Generated n g ws) p
 is-pattern n g ws p a e = record { counts = at }
   where
     at : (l : ℕ) → 1 ≤ l → l ≤ n → Count (λ w. Word n (Generated n g ws) w × (letters w ≡ l)) (ofLength p l)

@@ -13,7 +13,7 @@ use Rattle.regular.specs.Runs.{Runs, runsOf, switched, Table}
 use Rattle.regular.specs.Same.{moved, Renaming, Carries, Same}
 use Rattle.regular.specs.Words.{Word}
 use Rattle.standard.specs.Form.{StandardForm}
-use Rattle.standard.specs.FromTable.{table-standard}
+use Rattle.standard.specs.FromTable.{table-standard, head-in}
 use Rattle.standard.specs.Model.{standard}
 use Rattle.standard.specs.Runs.{run-zero}
 use Rattle.words.specs.ReducedWords.{reduced-words}
@@ -21,7 +21,7 @@ use Rattle.words.specs.Switches.{agree-sym, word-agree, word-switched, word-swi
 use Rattle.words.specs.WordList.{wordsTo}
 use Rattle.words.specs.Standards.{standard-own}
 use Rattle.isomorphism_laws.specs.KeptWords.{word-moved, word-from}
-use Rattle.isomorphism_laws.specs.Masks.{plan-within, table-witness}
+use Rattle.isomorphism_laws.specs.Masks.{plan-within, switched-witness}
 use Rattle.isomorphism_laws.specs.Renamings.{moved-lt, odd-moved, unmoved, unmoved-lt, moved-unmoved}
 
 -- the renaming p turns the words of s into those of t
@@ -98,5 +98,6 @@ words-same n m t u p first second r =
     record {
       names = p;
       mask = bitXor (moved p n (getD t 0 0)) (getD u 0 0);
-      carries = table-witness n m t u a d second (table-standard n m t first) (table-standard n m u second) p k;
+      carries = switched-witness n m (runsOf t) (runsOf u) (getD t 0 0) (getD u 0 0) a d (second .within (getD u 0 0) (head-in n m u second))
+          (table-standard n m t first .plan) (table-standard n m u second .plan) p k;
     }

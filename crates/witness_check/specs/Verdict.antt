@@ -8,20 +8,22 @@ use native.Mathlib.Decide.{ℕ-discrete}
 use Rattle.regular.specs.Refusals.{runsFaults, Lowest, either}
 use Rattle.regular.specs.RefusalLaws.{none-lowest, Lower, lowest-lower, lower-none}
 use Rattle.regular.specs.Accepted.{accepted-size, accepted-table}
-use Rattle.regular.specs.Comparisons.{Witness, Checks}
+use Rattle.regular.specs.Runs.{runsOf}
+use Rattle.regular.specs.Given.{ofRuns}
+use Rattle.regular.specs.Comparisons.{Witness, Checks, ChecksWitness}
 use Rattle.regular.specs.declared.Checked.{Checked}
 use Rattle.witness_check.specs.Names.{Named}
 use Rattle.witness_check.specs.Partners.{Partnered, NoPartner, partners-carry}
 
 -- a witness has n names, no mask bit past factor n, and leaves no run without a partner
 module _ (n : ℕ) (t u p : List ℕ) (mask : ℕ) where
-  pub not-named : (Named n p → ⊥) → Witness n t u p mask → ⊥
+  pub not-named : (Named n p → ⊥) → Witness n (runsOf t) (runsOf u) p mask → ⊥
   not-named h w = h (record { count = w .count; renaming = w .carries .renaming })
 
-  pub not-within : 2 ^ n ≤ mask → Witness n t u p mask → ⊥
+  pub not-within : 2 ^ n ≤ mask → Witness n (runsOf t) (runsOf u) p mask → ⊥
   not-within h w = omega (arith, w .carries .within)
 
-  pub not-partnered : NoPartner n t u p mask → Witness n t u p mask → ⊥
+  pub not-partnered : NoPartner n t u p mask → Witness n (runsOf t) (runsOf u) p mask → ⊥
   not-partnered o w = o .none (w .carries .into (o .run) (o .is))
 
 -- x and y are the numbers of the two tables, r the lower of them
@@ -42,13 +44,13 @@ module _ (n g : ℕ) (t u p : List ℕ) (mask x y r : ℕ) (a : Lowest (runsFaul
   pub check-size : r ≡ 0 → n ≤ 16
   check-size e = accepted-size n g (λ k f. none-lowest (runsFaults n g t) (first e) k (inl f)) .most
 
-  pub check-refused : (r ≡ 0 → ⊥) → Checks (either (runsFaults n g t) (runsFaults n g u)) (Witness n t u p mask) (Checked.Refused r)
+  pub check-refused : (r ≡ 0 → ⊥) → ChecksWitness n (ofRuns n g t) (ofRuns n g u) p mask (Checked.Refused r)
   check-refused h = Checks.refused r (by-cases (ℕ-discrete r 0) (λ e. absurd (h e)) (λ ne. omega arith)) low
 
-  pub check-no : r ≡ 0 → (Witness n t u p mask → ⊥) → Checks (either (runsFaults n g t) (runsFaults n g u)) (Witness n t u p mask) Checked.No
+  pub check-no : r ≡ 0 → (Witness n (runsOf t) (runsOf u) p mask → ⊥) → ChecksWitness n (ofRuns n g t) (ofRuns n g u) p mask Checked.No
   check-no e h = Checks.no (none e) h
 
-  pub check-yes : r ≡ 0 → Named n p → mask < 2 ^ n → Partnered n t u p mask → Checks (either (runsFaults n g t) (runsFaults n g u)) (Witness n t u p mask) Checked.Yes
+  pub check-yes : r ≡ 0 → Named n p → mask < 2 ^ n → Partnered n t u p mask → ChecksWitness n (ofRuns n g t) (ofRuns n g u) p mask Checked.Yes
   check-yes e w h into =
       Checks.yes (none e)
       (record {

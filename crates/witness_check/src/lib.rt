@@ -1,8 +1,8 @@
 // The check of a claimed witness between two run tables.
 ghost use Prim.Native.Nat.{_≤_};
 ghost use Rattle.gf2.specs.Answers.{Tells};
-ghost use Rattle.regular.specs.Refusals.{runsFaults, either};
-ghost use Rattle.regular.specs.Comparisons.{Witness, Checks};
+ghost use Rattle.regular.specs.Comparisons.{ChecksWitness};
+ghost use Rattle.regular.specs.Given.{ofRuns};
 ghost use Rattle.witness_check.specs.Names.{Named};
 ghost use Rattle.witness_check.specs.Partners.{Partnered, NoPartner};
 use admission::array_of;
@@ -75,8 +75,7 @@ pub fn check_witness(
     names: &[u8],
     mask: u16,
 ) -> Checked
-    ensures { λ r. ⌜ Checks (either (runsFaults n g (now (first .entry))) (runsFaults n g (now (second .entry))))
-        (Witness n (now (first .entry)) (now (second .entry)) (now (names .entry)) mask) r ⌝ }
+    ensures { λ r. ⌜ ChecksWitness n (ofRuns n g (now (first .entry))) (ofRuns n g (now (second .entry))) (now (names .entry)) mask r ⌝ }
 {
     let a = admission::admit_runs(n, g, first);
     let b = admission::admit_runs(n, g, second);

@@ -1,12 +1,13 @@
 -- `admission::admit_array` meets its contract: 5, 6 and 7 are met in this order. Assumes nothing.
 use borrow.Author.Tests.{not-true, not-false}
+use mathlib.Core.Path.{refl}
 use Rattle.regular.specs.Columns.{Below, planOf}
 use native.Mathlib.Omega.{arith}
 use borrow.Author.Needs.{needs}
 use Rattle.admission.proofs.admit_array.Statement.{statement}
 use Rattle.admission.proofs.admit_array.Tie as tie
 use Rattle.admission.specs.Faults.{columns-0, columns-5, columns-6, columns-7}
-use Rattle.admission.specs.Admitting.{array-answered}
+use Rattle.admission.specs.Admitting.{array-refused}
 use Rattle.standard.specs.Units.{standard-below}
 use Rattle.gf2.specs.DigitLaws.{pow-most}
 use Rattle.words.specs.Short.{plain-long, repeat-short}
@@ -27,7 +28,7 @@ returns c =
     let b = c .before .before .columns-below .ensures .1 in
     let t = c .before .if1 .taken in
     let w = b (not-true _ t) in
-    array-answered (a .n) (a .m) (a .columns) 5 (c .refused .result) (c .refused .ensures) (omega arith) (columns-5 (a .n) (a .m) (a .columns) (w .0) (w .1 .0) (omega (arith, p, w .1 .1)))
+    array-refused (a .n) (a .m) (a .columns) 5 (c .refused .result) (c .refused .ensures) (omega arith) (columns-5 (a .n) (a .m) (a .columns) (w .0) (w .1 .0) (omega (arith, p, w .1 .1)))
 
 standardize-requires : tie.Need-standardize-requires
 standardize-requires c κs =
@@ -49,7 +50,7 @@ returns-2 c =
     let u = c .before .before .before .standardize .ensures in
     let v = c .before .if2 .taken in
     let low : Below (a .n) (a .m) (a .columns) = λ f h. omega (arith, p, b (not-false _ t) f h) in
-    array-answered (a .n) (a .m) (a .columns) 6 (c .refused2 .result) (c .refused2 .ensures) (omega arith) (columns-6 (a .n) (a .m) (a .columns) low (u .impossible (not-true _ v)))
+    array-refused (a .n) (a .m) (a .columns) 6 (c .refused2 .result) (c .refused2 .ensures) (omega arith) (columns-6 (a .n) (a .m) (a .columns) low (u .impossible (not-true _ v)))
 
 plain-requires : tie.Need-plain-requires
 plain-requires c κs =
@@ -76,7 +77,7 @@ returns-3 c =
     let x = c .before .if3 .taken in
     let low : Below (a .n) (a .m) (a .columns) = λ f h. omega (arith, p, b (not-false _ t) f h) in
     let st = u .standard (not-false _ v) in
-    array-answered (a .n) (a .m) (a .columns) 7 (c .refused3 .result) (c .refused3 .ensures) (omega arith)
+    array-refused (a .n) (a .m) (a .columns) 7 (c .refused3 .result) (c .refused3 .ensures) (omega arith)
     (columns-7 (a .n) (a .m) (a .columns) low (u .possible (not-false _ v)) (repeat-short (a .n) (a .m) (planOf (a .n) (a .m) (a .columns)) (r .columns) st (q (not-true _ x))))
 
 returns-4 : tie.Need-returns-4
@@ -96,6 +97,7 @@ returns-4 c =
     record {
       lowest = columns-0 (a .n) (a .m) (a .columns) low (u .possible (not-false _ v)) (plain-long (a .n) (a .m) (planOf (a .n) (a .m) (a .columns)) (r .columns) st pl);
       refused = λ h. absurd (omega arith);
+      start = refl;
       standard = λ _. st;
       plain = λ _. pl;
       unused = λ _. u .unused;

@@ -3,14 +3,14 @@ use native.Mathlib.Omega.{arith}
 use borrow.Author.Needs.{needs}
 use Rattle.admission.proofs.admit_columns.Statement.{statement}
 use Rattle.admission.proofs.admit_columns.Tie as tie
-use Rattle.regular.specs.Accepted.{size-accepted}
+use mathlib.Core.Path.{_≡_}
 use Rattle.admission.specs.Faults.{list-0, list-4}
-use Rattle.admission.specs.Admitting.{answered, array-admission, size-refusal, plan-refusal}
-use Rattle.regular.specs.Refusals.{columnsFaults, ListFault, either, ColumnsFault}
+use Rattle.admission.specs.Admitting.{array-admission, size-refused, plan-refused}
+use Rattle.regular.specs.Refusals.{ListFault, either, ColumnsFault}
 use Rattle.regular.specs.Columns.{planOf}
 use Prim.Native.Nat.{_-_}
 use mathlib.Core.Logic.{⊎-elim}
-use Rattle.regular.specs.RefusalLaws.{list-is, lowest-first, columns-least}
+use Rattle.regular.specs.RefusalLaws.{list-is, lowest-first, columns-least, columns-faults-most}
 
 size-number-requires : tie.Need-size-number-requires
 size-number-requires c κs = search needs
@@ -23,10 +23,10 @@ returns c =
     let a = c .before .before .before .before .args in
     let q = c .before .before .size-number in
     let t = c .before .if1 .taken in
-    answered (columnsFaults (a .n) (a .g) (a .list .now)) (a .n) (a .g) (planOf (a .n) (a .n - a .g) (a .list .now)) (q .result) (c .refused .result) (c .refused .ensures)
-    (size-refusal (either (ListFault (a .n) (a .list .now)) (ColumnsFault (a .n) (a .n - a .g) (a .list .now))) (a .n) (a .g) (planOf (a .n) (a .n - a .g) (a .list .now)) (q .result) t
+    size-refused (a .n) (a .g) (either (ListFault (a .n) (a .list .now)) (ColumnsFault (a .n) (a .n - a .g) (a .list .now))) (planOf (a .n) (a .n - a .g) (a .list .now)) (λ x. x ≡ 0)
+    (columns-faults-most (a .n) (a .g) (a .list .now)) (q .result) (c .refused .result) (c .refused .ensures) t
     (λ k f. ⊎-elim (λ e. omega (arith, list-is (a .n) (a .list .now) k e)) (λ e. omega (arith, columns-least (a .n) (a .n - a .g) (a .list .now) k e)) f)
-    (q .ensures .0))
+    (q .ensures .0)
 
 refused-requires-2 : tie.Need-refused-requires-2
 refused-requires-2 c κs = search needs
@@ -38,9 +38,10 @@ returns-2 c =
     let t = c .before .before .if1 .left in
     let u = c .before .if2 .taken in
     let z = q .ensures .1 t in
-    answered (columnsFaults (a .n) (a .g) (a .list .now)) (a .n) (a .g) (planOf (a .n) (a .n - a .g) (a .list .now)) 4 (c .refused2 .result) (c .refused2 .ensures)
-    (plan-refusal (either (ListFault (a .n) (a .list .now)) (ColumnsFault (a .n) (a .n - a .g) (a .list .now))) (a .n) (a .g) (planOf (a .n) (a .n - a .g) (a .list .now)) 4 (omega arith) (size-accepted (a .n) (a .g) z)
-    (lowest-first (ListFault (a .n) (a .list .now)) (ColumnsFault (a .n) (a .n - a .g) (a .list .now)) 4 (omega arith) (list-4 (a .n) (a .list .now) u) (λ k f. omega (arith, columns-least (a .n) (a .n - a .g) (a .list .now) k f))))
+    plan-refused (a .n) (a .g) (either (ListFault (a .n) (a .list .now)) (ColumnsFault (a .n) (a .n - a .g) (a .list .now))) (planOf (a .n) (a .n - a .g) (a .list .now)) (λ x. x ≡ 0)
+    (columns-faults-most (a .n) (a .g) (a .list .now)) 4 (omega arith) z
+    (lowest-first (ListFault (a .n) (a .list .now)) (ColumnsFault (a .n) (a .n - a .g) (a .list .now)) 4 (omega arith) (list-4 (a .n) (a .list .now) u) (λ k f. omega (arith, columns-least (a .n) (a .n - a .g) (a .list .now) k f)))
+    (c .refused2 .result) (c .refused2 .ensures)
 
 sub-admit-array : tie.Need-sub-admit-array
 sub-admit-array c =
@@ -77,7 +78,7 @@ returns-3 c =
     let u = c .before .before .if2 .left in
     let o = c .before .array-of in
     let z = q .ensures .1 t in
-    array-admission (ListFault (a .n) (a .list .now)) (a .n) (a .g) (o .result) (a .list .now) (c .admit-array .result .number) (c .admit-array .result .columns) z
+    array-admission (ListFault (a .n) (a .list .now)) (a .n) (a .g) (o .result) (a .list .now) (c .admit-array .result) (columns-faults-most (a .n) (a .g) (a .list .now)) z
     (list-0 (a .n) (a .list .now) u) (λ f h. o .ensures f) (c .admit-array .ensures)
 
 pub admit-columns-spec : {M : Type 1} → statement M

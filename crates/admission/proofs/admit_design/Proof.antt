@@ -4,14 +4,14 @@ use borrow.Author.Needs.{needs}
 use Rattle.admission.proofs.admit_design.Statement.{statement}
 use Rattle.admission.proofs.admit_design.Tie as tie
 use Rattle.admission.specs.Faults.{record-0, record-4, record-5}
-use Rattle.admission.specs.Admitting.{answered, array-admission, size-refusal, plan-answered}
+use Rattle.admission.specs.Admitting.{array-admission, size-refused, plan-refused}
 use borrow.Author.Tests.{not-true, not-false}
 use Rattle.regular.specs.Refusals.{designFaults, RecordFault, either, ColumnsFault, Lowest}
 use Rattle.regular.specs.Columns.{planOf}
 use Prim.Native.Nat.{_-_, ℕ, _<_, _≤_}
 use mathlib.Core.Path.{sym, _∙_, refl, _≡_}
 use mathlib.Core.Logic.{⊎-elim, inl, inr}
-use Rattle.regular.specs.RefusalLaws.{record-least, lowest-first, columns-least}
+use Rattle.regular.specs.RefusalLaws.{record-least, lowest-first, columns-least, design-faults-most}
 use Rattle.regular.specs.Runs.{Runs}
 use Rattle.regular.specs.Sizes.{Size}
 
@@ -24,6 +24,9 @@ columns-fault s = ColumnsFault (s .args .n) (s .args .n - s .args .g) (s .args .
 
 abbrev plan : tie.Start → Runs
 plan s = planOf (s .args .n) (s .args .n - s .args .g) (s .args .design .columns)
+
+most : (s : tie.Start) (k : ℕ) → designFaults (s .args .n) (s .args .g) (s .args .design) k → k ≤ 7
+most s = design-faults-most (s .args .n) (s .args .g) (s .args .design)
 
 -- a fault of the record comes before those of its columns
 first : (s : tie.Start) (k : ℕ) → 0 < k → k ≤ 5 → Lowest (fault s) k → Lowest (either (fault s) (columns-fault s)) k
@@ -54,10 +57,9 @@ returns c =
     let s = c .before .before .before in
     let a = s .args in
     let q = c .before .before .size-number in
-    answered (designFaults (a .n) (a .g) (a .design)) (a .n) (a .g) (plan s) (q .result) (c .refused .result) (c .refused .ensures)
-    (size-refusal (either (fault s) (columns-fault s)) (a .n) (a .g) (plan s) (q .result) (c .before .if1 .taken)
+    size-refused (a .n) (a .g) (either (fault s) (columns-fault s)) (plan s) (λ x. x ≡ 0) (most s) (q .result) (c .refused .result) (c .refused .ensures) (c .before .if1 .taken)
     (λ k f. ⊎-elim (λ e. record-least (a .n) (a .n - a .g) (a .design) k e) (λ e. omega (arith, columns-least (a .n) (a .n - a .g) (a .design .columns) k e)) f)
-    (q .ensures .0))
+    (q .ensures .0)
 
 sub-m : tie.Need-sub-m
 sub-m c = omega (arith, sized c .less)
@@ -72,7 +74,7 @@ returns-2 : tie.Need-returns-2
 returns-2 c =
     let o = c .before .before .before in
     let s = o .before .before in
-    plan-answered (either (fault s) (columns-fault s)) (s .args .n) (s .args .g) (plan s) 4 (omega arith) (sized o)
+    plan-refused (s .args .n) (s .args .g) (either (fault s) (columns-fault s)) (plan s) (λ x. x ≡ 0) (most s) 4 (omega arith) (sized o)
     (first s 4 (omega arith) (omega arith)
     (record-4 (s .args .n) (s .args .n - s .args .g) (s .args .design) (inl (λ e. c .before .if2 .taken (c .before .before .wide-byte .ensures .0 ∙ e)))))
     (c .refused2 .result) (c .refused2 .ensures)
@@ -87,7 +89,7 @@ returns-3 : tie.Need-returns-3
 returns-3 c =
     let o = c .before .before .before .before .before in
     let s = o .before .before in
-    plan-answered (either (fault s) (columns-fault s)) (s .args .n) (s .args .g) (plan s) 4 (omega arith) (sized o)
+    plan-refused (s .args .n) (s .args .g) (either (fault s) (columns-fault s)) (plan s) (λ x. x ≡ 0) (most s) 4 (omega arith) (sized o)
     (first s 4 (omega arith) (omega arith)
     (record-4 (s .args .n) (s .args .n - s .args .g) (s .args .design) (inr (λ e. c .before .if3 .taken (c .before .before .wide-byte2 .ensures .0 ∙ e)))))
     (c .refused3 .result) (c .refused3 .ensures)
@@ -104,7 +106,7 @@ returns-4 c =
     let o = sizes-at u in
     let s = o .before .before in
     let p = c .before .before .unused-zero .ensures .1 (not-true _ (c .before .if4 .taken)) in
-    plan-answered (either (fault s) (columns-fault s)) (s .args .n) (s .args .g) (plan s) 5 (omega arith) (sized o)
+    plan-refused (s .args .n) (s .args .g) (either (fault s) (columns-fault s)) (plan s) (λ x. x ≡ 0) (most s) 5 (omega arith) (sized o)
     (first s 5 (omega arith) (omega arith)
     (record-5 (s .args .n) (s .args .n - s .args .g) (s .args .design) (factors u) (basics u) (p .0) (p .1 .0) (p .1 .1 .0) (p .1 .1 .1)))
     (c .refused4 .result) (c .refused4 .ensures)
@@ -117,7 +119,7 @@ returns-5 c =
     let u = c .before .before .before .before in
     let o = sizes-at u in
     let a = o .before .before .args in
-    array-admission (RecordFault (a .n) (a .n - a .g) (a .design)) (a .n) (a .g) (a .design .columns) (a .design .columns) (c .admit-array .result .number) (c .admit-array .result .columns) (sized o)
+    array-admission (RecordFault (a .n) (a .n - a .g) (a .design)) (a .n) (a .g) (a .design .columns) (a .design .columns) (c .admit-array .result) (most (o .before .before)) (sized o)
     (record-0 (a .n) (a .n - a .g) (a .design) (factors u) (basics u) (c .before .before .unused-zero .ensures .0 (not-false _ (c .before .if4 .left)))) (λ f h. refl) (c .admit-array .ensures)
 
 pub admit-design-spec : {M : Type 1} → statement M

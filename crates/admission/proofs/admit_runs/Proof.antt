@@ -6,16 +6,18 @@ use borrow.Author.Needs.{needs}
 use Rattle.admission.proofs.admit_runs.Statement.{statement}
 use Rattle.admission.proofs.admit_runs.Tie as tie
 use Rattle.admission.specs.Faults.{table-0, table-4, table-5, table-6, table-7}
-use Rattle.admission.specs.Admitting.{answered, size-refusal, accepted, plan-answered}
+use Rattle.admission.specs.Admitting.{size-refused, accepted, plan-refused}
 use lib.ListN.{length, getD}
+use lib.Pow.{pow-pos}
+use Rattle.gf2.specs.Places.{place-in}
 use borrow.Author.Tests.{not-false, not-true}
 use Rattle.regular.specs.Refusals.{runsFaults, TableFault}
-use Prim.Native.Nat.{_^_, _-_, ℕ, _<_}
+use Prim.Native.Nat.{_^_, _-_, ℕ, _≤_, _<_}
 use Rattle.standard.specs.Units.{standard-below, below-128}
 use Rattle.standard.specs.Form.{StandardFor}
 use Rattle.regular.specs.Runs.{switched, runsOf, Runs}
 use Rattle.gf2.specs.Members.{In, different-or-not}
-use Rattle.regular.specs.RefusalLaws.{table-least}
+use Rattle.regular.specs.RefusalLaws.{table-least, runs-faults-most}
 use Rattle.regular.specs.Sizes.{Size}
 use Rattle.words.specs.Switches.{no-short-switched, short-switched}
 use Rattle.words.specs.Short.{plain-long, repeat-short}
@@ -29,6 +31,13 @@ fault s = TableFault (s .args .n) (s .args .n - s .args .g) (runs s)
 
 abbrev plan : tie.Start → Runs
 plan s = switched (getD (runs s) 0 0) (runsOf (runs s))
+
+-- the run that it starts from, and the numbers of its faults
+abbrev from : tie.Start → ℕ → Type 0
+from s = λ x. x ≡ getD (runs s) 0 0
+
+most : (s : tie.Start) (k : ℕ) → runsFaults (s .args .n) (s .args .g) (runs s) k → k ≤ 7
+most s = runs-faults-most (s .args .n) (s .args .g) (runs s)
 
 -- the tests passed, each with what it says: the sizes, the number of runs, their bits, the standard columns
 abbrev start : tie.Else1 → tie.Start
@@ -67,8 +76,7 @@ returns c =
     let s = c .before .before .before .before in
     let a = s .args in
     let q = c .before .before .size-number in
-    answered (runsFaults (a .n) (a .g) (runs s)) (a .n) (a .g) (plan s) (q .result) (c .refused .result) (c .refused .ensures)
-    (size-refusal (fault s) (a .n) (a .g) (plan s) (q .result) (c .before .if1 .taken) (table-least (a .n) (a .n - a .g) (runs s)) (q .ensures .0))
+    size-refused (a .n) (a .g) (fault s) (runsOf (runs s)) (from s) (most s) (q .result) (c .refused .result) (c .refused .ensures) (c .before .if1 .taken) (table-least (a .n) (a .n - a .g) (runs s)) (q .ensures .0)
 
 sub-m : tie.Need-sub-m
 sub-m c = omega (arith, sized c .less)
@@ -83,7 +91,7 @@ returns-2 : tie.Need-returns-2
 returns-2 c =
     let o = c .before .before .before in
     let s = start o in
-    plan-answered (fault s) (s .args .n) (s .args .g) (plan s) 4 (omega arith) (sized o)
+    plan-refused (s .args .n) (s .args .g) (fault s) (runsOf (runs s)) (from s) (most s) 4 (omega arith) (sized o)
     (table-4 (s .args .n) (s .args .n - s .args .g) (runs s) (λ e. c .before .if2 .taken (e ∙ sym (c .before .before .power .ensures .0))))
     (c .refused2 .result) (c .refused2 .ensures)
 
@@ -101,7 +109,7 @@ returns-3 c =
     let o = c .before .before .before .before in
     let s = start-2 o in
     let w = c .before .before .all-below .ensures .1 (not-true _ (c .before .if3 .taken)) in
-    plan-answered (fault s) (s .args .n) (s .args .g) (plan s) 5 (omega arith) (sized (o .before .before))
+    plan-refused (s .args .n) (s .args .g) (fault s) (runsOf (runs s)) (from s) (most s) 5 (omega arith) (sized (o .before .before))
     (table-5 (s .args .n) (s .args .n - s .args .g) (runs s) (counted o) (w .0) (w .1 .0) (omega (arith, c .before .before .before .power2 .ensures .0, w .1 .1)))
     (c .refused3 .result) (c .refused3 .ensures)
 
@@ -119,7 +127,7 @@ returns-4 c =
     let u = c .before .before .before .before in
     let o = u .before .before .before in
     let s = start-3 u in
-    plan-answered (fault s) (s .args .n) (s .args .g) (plan s) 6 (omega arith) (sized (o .before .before))
+    plan-refused (s .args .n) (s .args .g) (fault s) (runsOf (runs s)) (from s) (most s) 6 (omega arith) (sized (o .before .before))
     (table-6 (s .args .n) (s .args .n - s .args .g) (runs s) (counted o) (low u) (different-or-not (runs s))
     (c .before .before .before .table-columns .ensures .impossible (not-true _ (c .before .if4 .taken))))
     (c .refused4 .result) (c .refused4 .ensures)
@@ -142,24 +150,31 @@ returns-5 c =
     let o = u .before .before .before in
     let s = start-4 v in
     let d = v .before .before .table-columns in
-    plan-answered (fault s) (s .args .n) (s .args .g) (plan s) 7 (omega arith) (sized (o .before .before))
+    plan-refused (s .args .n) (s .args .g) (fault s) (runsOf (runs s)) (from s) (most s) 7 (omega arith) (sized (o .before .before))
     (table-7 (s .args .n) (s .args .n - s .args .g) (runs s) (counted o) (low u) (d .ensures .possible (not-false _ (v .if4 .left)))
     (short-switched (s .args .n) (getD (runs s) 0 0) (runsOf (runs s)) 3
     (repeat-short (s .args .n) (s .args .n - s .args .g) (plan s) (d .result .columns) (standard v) (c .before .before .plain .ensures .1 (not-true _ (c .before .if5 .taken))))))
     (c .refused5 .result) (c .refused5 .ensures)
 
+-- the table has a first run
+some : (c : tie.Else2) → 0 < length (runs (start-2 c))
+some c = let s = start-2 c in omega (arith, counted c, pow-pos (s .args .n - s .args .g))
+
+shared-slice-read-run : tie.Need-shared-slice-read-run
+shared-slice-read-run c = some (c .before .before .before .before .before .before .before .before .before .before)
+
 returns-6 : tie.Need-returns-6
 returns-6 c =
-    let v = c .before .before .before in
+    let v = c .before .before .before .before in
     let u = v .before .before .before in
     let o = u .before .before .before in
     let s = start-4 v in
     let d = v .before .before .table-columns in
-    let pl = c .before .plain .ensures .0 (not-false _ (c .if5 .left)) in
-    accepted (fault s) (s .args .n) (s .args .g) (plan s) (d .result .columns) (sized (o .before .before))
+    let pl = c .before .before .plain .ensures .0 (not-false _ (c .before .if5 .left)) in
+    accepted (s .args .n) (s .args .g) (fault s) (runsOf (runs s)) (from s) (most s) (getD (runs s) 0 0) (d .result .columns) (sized (o .before .before))
     (table-0 (s .args .n) (s .args .n - s .args .g) (runs s) (counted o) (low u) (d .ensures .possible (not-false _ (v .if4 .left)))
     (no-short-switched (s .args .n) (getD (runs s) 0 0) (runsOf (runs s)) 3 (plain-long (s .args .n) (s .args .n - s .args .g) (plan s) (d .result .columns) (standard v) pl)))
-    (standard v) pl (d .ensures .unused)
+    (λ x e. e) (low u (getD (runs s) 0 0) (place-in (runs s) 0 (some o))) (standard v) pl (d .ensures .unused)
 
 pub admit-runs-spec : {M : Type 1} → statement M
 admit-runs-spec =
@@ -182,4 +197,5 @@ admit-runs-spec =
     plain-requires
     refused-requires-5
     returns-5
+    shared-slice-read-run
     returns-6)

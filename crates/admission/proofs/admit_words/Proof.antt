@@ -1,20 +1,21 @@
 -- `admission::admit_words` meets its contract: 1, 2 and 4 to 7 are met in this order. Assumes nothing.
 use borrow.Author.Tests.{not-true, not-false}
-use Prim.Native.Nat.{_-_, _^_, _<_, ℕ}
-use mathlib.Core.Path.{subst}
+use Prim.Native.Nat.{_-_, _^_, _≤_, _<_, ℕ}
+use mathlib.Core.Path.{_≡_, subst}
+use lib.Pow.{pow-pos}
 use mathlib.Core.List.{List}
 use native.Mathlib.Omega.{arith}
 use borrow.Author.Needs.{needs}
 use Rattle.admission.proofs.admit_words.Statement.{statement}
 use Rattle.admission.proofs.admit_words.Tie as tie
 use Rattle.admission.specs.Faults.{words-0, words-4, words-5, words-6, words-7}
-use Rattle.admission.specs.Admitting.{answered, size-refusal, accepted, plan-answered}
+use Rattle.admission.specs.Admitting.{size-refused, accepted, plan-refused, standard-unswitched}
 use lib.ListN.{length, getD}
 use Rattle.regular.specs.Refusals.{wordsFaults, WordsFault}
 use Rattle.standard.specs.Finding.{Found}
 use Rattle.regular.specs.Words.{Generated, Independent}
 use Rattle.standard.specs.Units.{standard-below, below-128}
-use Rattle.regular.specs.RefusalLaws.{words-least}
+use Rattle.regular.specs.RefusalLaws.{words-least, words-faults-most}
 use Rattle.regular.specs.Runs.{Runs}
 use Rattle.regular.specs.Sizes.{Size}
 use Rattle.words.specs.Short.{plain-long, repeat-short}
@@ -28,6 +29,13 @@ fault s = WordsFault (s .args .n) (s .args .g) (words s)
 
 abbrev plan : tie.Start → Runs
 plan s = Generated (s .args .n) (s .args .g) (words s)
+
+-- the run that it starts from, and the numbers of its faults
+abbrev from : tie.Start → ℕ → Type 0
+from s = λ x. x ≡ 0
+
+most : (s : tie.Start) (k : ℕ) → wordsFaults (s .args .n) (s .args .g) (words s) k → k ≤ 7
+most s = words-faults-most (s .args .n) (s .args .g) (words s)
 
 -- the tests passed, each with what it says: the sizes, the number of words (the test itself), their letters, the standard columns
 abbrev start : tie.Else1 → tie.Start
@@ -65,8 +73,7 @@ returns c =
     let s = c .before .before .before .before in
     let a = s .args in
     let q = c .before .before .size-number in
-    answered (wordsFaults (a .n) (a .g) (words s)) (a .n) (a .g) (plan s) (q .result) (c .refused .result) (c .refused .ensures)
-    (size-refusal (fault s) (a .n) (a .g) (plan s) (q .result) (c .before .if1 .taken) (words-least (a .n) (a .g) (words s)) (q .ensures .0))
+    size-refused (a .n) (a .g) (fault s) (plan s) (from s) (most s) (q .result) (c .refused .result) (c .refused .ensures) (c .before .if1 .taken) (words-least (a .n) (a .g) (words s)) (q .ensures .0)
 
 refused-requires-2 : tie.Need-refused-requires-2
 refused-requires-2 c κs = search needs
@@ -75,7 +82,7 @@ returns-2 : tie.Need-returns-2
 returns-2 c =
     let o = c .before .before in
     let s = start o in
-    plan-answered (fault s) (s .args .n) (s .args .g) (plan s) 4 (omega arith) (sized o) (words-4 (s .args .n) (s .args .g) (words s) (c .before .if2 .taken))
+    plan-refused (s .args .n) (s .args .g) (fault s) (plan s) (from s) (most s) 4 (omega arith) (sized o) (words-4 (s .args .n) (s .args .g) (words s) (c .before .if2 .taken))
     (c .refused2 .result) (c .refused2 .ensures)
 
 power-requires : tie.Need-power-requires
@@ -92,7 +99,7 @@ returns-3 c =
     let o = c .before .before .before .before .before in
     let s = start o in
     let w = c .before .before .letters-below .ensures .1 (not-true _ (c .before .if3 .taken)) in
-    plan-answered (fault s) (s .args .n) (s .args .g) (plan s) 5 (omega arith) (sized o)
+    plan-refused (s .args .n) (s .args .g) (fault s) (plan s) (from s) (most s) 5 (omega arith) (sized o)
     (words-5 (s .args .n) (s .args .g) (words s) (c .before .before .before .before .if2 .left) (w .0) (w .1 .0) (omega (arith, c .before .before .before .power .ensures .0, w .1 .1)))
     (c .refused3 .result) (c .refused3 .ensures)
 
@@ -109,7 +116,7 @@ returns-4 c =
     let d = c .before .before .before in
     let u = d .before in
     let s = start-3 u in
-    plan-answered (fault s) (s .args .n) (s .args .g) (plan s) 6 (omega arith) (sized (u .before .before .before .before))
+    plan-refused (s .args .n) (s .args .g) (fault s) (plan s) (from s) (most s) 6 (omega arith) (sized (u .before .before .before .before))
     (words-6 (s .args .n) (s .args .g) (words s) (u .before .before .before .if2 .left) (low u) (found d .impossible (not-true _ (c .before .if4 .taken))))
     (c .refused4 .result) (c .refused4 .ensures)
 
@@ -132,7 +139,7 @@ returns-5 c =
     let u = d .before in
     let s = start-3 u in
     let x = not-false _ (v .if4 .left) in
-    plan-answered (fault s) (s .args .n) (s .args .g) (plan s) 7 (omega arith) (sized (u .before .before .before .before))
+    plan-refused (s .args .n) (s .args .g) (fault s) (plan s) (from s) (most s) 7 (omega arith) (sized (u .before .before .before .before))
     (words-7 (s .args .n) (s .args .g) (words s) (u .before .before .before .if2 .left) (low u) (found d .possible x)
     (repeat-short (s .args .n) (s .args .n - s .args .g) (plan s) (d .words-columns .result .columns) (found d .standard x) (c .before .before .plain .ensures .1 (not-true _ (c .before .if5 .taken)))))
     (c .refused5 .result) (c .refused5 .ensures)
@@ -146,10 +153,10 @@ returns-6 c =
     let x = not-false _ (v .if4 .left) in
     let a = d .words-columns .result .columns in
     let pl = c .before .plain .ensures .0 (not-false _ (c .if5 .left)) in
-    accepted (fault s) (s .args .n) (s .args .g) (plan s) a (sized (u .before .before .before .before))
+    accepted (s .args .n) (s .args .g) (fault s) (plan s) (from s) (most s) 0 a (sized (u .before .before .before .before))
     (words-0 (s .args .n) (s .args .g) (words s) (u .before .before .before .if2 .left) (low u) (found d .possible x)
     (plain-long (s .args .n) (s .args .n - s .args .g) (plan s) a (found d .standard x) pl))
-    (found d .standard x) pl (found d .unused)
+    (λ x e. e) (pow-pos (s .args .n)) (standard-unswitched (s .args .n) (s .args .n - s .args .g) (plan s) a (found d .standard x)) pl (found d .unused)
 
 pub admit-words-spec : {M : Type 1} → statement M
 admit-words-spec =

@@ -1,12 +1,12 @@
 -- `forms::columns_of_runs` meets its contract: the admitted plan is the table's. Assumes nothing.
 use borrow.Author.Needs.{needs}
+use mathlib.Core.Path.{refl}
+use Rattle.admission.specs.Admission.{standard-from}
 use Rattle.forms.proofs.columns_of_runs.Statement.{statement}
 use Rattle.forms.proofs.columns_of_runs.Tie as tie
 use Rattle.forms.specs.Made.{columns-fills}
-use Rattle.regular.specs.Refusals.{runsFaults}
 use Rattle.regular.specs.Runs.{switched, runsOf}
 use lib.ListN.{getD}
-use Rattle.regular.specs.RefusalLaws.{runs-faults-most}
 
 admit-runs-requires : tie.Need-admit-runs-requires
 admit-runs-requires c κs = search needs
@@ -22,7 +22,7 @@ returns c =
     let a = c .before .before .before .before .before .before .before .args in
     let q = c .before .before .before .before .admit-runs in
     let l = c .before .before .lend-columns in
-    columns-fills (runsFaults (a .n) (a .g) (a .runs .now)) (a .n) (a .g) (switched (getD (a .runs .now) 0 0) (runsOf (a .runs .now))) (q .result .number) (q .result .columns) (q .ensures) (runs-faults-most (a .n) (a .g) (a .runs .now)) (a .out .now) (l .last .1 .1 .0) (l .result) (l .ensures)
+    columns-fills (q .ensures) (switched (getD (a .runs .now) 0 0) (runsOf (a .runs .now))) (standard-from (q .ensures) (getD (a .runs .now) 0 0) refl) (a .out .now) (l .last .1 .1 .0) (l .result) (l .ensures)
 
 pub columns-of-runs-spec : {M : Type 1} → statement M
 columns-of-runs-spec =

@@ -1,11 +1,11 @@
 -- `forms::columns_of_words` meets its contract: the admitted plan is the words'. Assumes nothing.
 use borrow.Author.Needs.{needs}
+use mathlib.Core.Path.{refl}
+use Rattle.admission.specs.Admission.{standard-from-high}
 use Rattle.forms.proofs.columns_of_words.Statement.{statement}
 use Rattle.forms.proofs.columns_of_words.Tie as tie
 use Rattle.forms.specs.Made.{columns-fills}
-use Rattle.regular.specs.Refusals.{wordsFaults}
 use Rattle.regular.specs.Words.{Generated}
-use Rattle.regular.specs.RefusalLaws.{words-faults-most}
 
 admit-words-requires : tie.Need-admit-words-requires
 admit-words-requires c κs = search needs
@@ -21,7 +21,7 @@ returns c =
     let a = c .before .before .before .before .before .before .before .args in
     let q = c .before .before .before .before .admit-words in
     let l = c .before .before .lend-columns in
-    columns-fills (wordsFaults (a .n) (a .g) (a .words .now)) (a .n) (a .g) (Generated (a .n) (a .g) (a .words .now)) (q .result .number) (q .result .columns) (q .ensures) (words-faults-most (a .n) (a .g) (a .words .now)) (a .out .now) (l .last .1 .1 .0) (l .result) (l .ensures)
+    columns-fills (q .ensures) (Generated (a .n) (a .g) (a .words .now)) (standard-from-high (q .ensures) refl) (a .out .now) (l .last .1 .1 .0) (l .result) (l .ensures)
 
 pub columns-of-words-spec : {M : Type 1} → statement M
 columns-of-words-spec =

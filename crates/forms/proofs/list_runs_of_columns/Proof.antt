@@ -6,10 +6,8 @@ use Rattle.forms.proofs.list_runs_of_columns.Statement.{statement}
 use Rattle.forms.proofs.list_runs_of_columns.Tie as tie
 use Rattle.forms.specs.Made.{given-fills}
 use Rattle.admission.specs.Admitting.{columns-count}
-use Rattle.regular.specs.Refusals.{columnsFaults}
-use Rattle.regular.specs.Columns.{planOf, Listed}
+use Rattle.regular.specs.Columns.{Listed}
 use Prim.Native.Nat.{_-_, _^_}
-use Rattle.regular.specs.RefusalLaws.{columns-faults-most}
 use Rattle.lent.specs.Lends.{lends-refused}
 
 admit-columns-requires : tie.Need-admit-columns-requires
@@ -20,7 +18,7 @@ returns c =
     let a = c .before .before .before .before .args in
     let q = c .before .admit-columns in
     let t = c .if1 .taken in
-    given-fills (columnsFaults (a .n) (a .g) (a .columns .now)) (a .n) (a .g) (planOf (a .n) (a .n - a .g) (a .columns .now)) (q .result .number) (q .result .columns) (q .ensures) (columns-faults-most (a .n) (a .g) (a .columns .now)) (a .columns .now) (a .columns .now) (a .out .now) (a .out .now) (q .result .number) (λ f. refl)
+    given-fills (q .ensures) (a .columns .now) (a .columns .now) (a .out .now) (a .out .now) (q .result .number) (λ f. refl)
     (lends-refused (q .result .number) (2 ^ (a .n - a .g)) (Listed (a .n) (a .n - a .g) (a .columns .now)) (a .out .now) t)
 
 array-of-requires : tie.Need-array-of-requires
@@ -42,7 +40,7 @@ returns-2 c =
     let q = c .before .before .before .before .before .before .admit-columns in
     let o = c .before .before .before .before .array-of in
     let l = c .before .before .lend-runs in
-    given-fills (columnsFaults (a .n) (a .g) (a .columns .now)) (a .n) (a .g) (planOf (a .n) (a .n - a .g) (a .columns .now)) (q .result .number) (q .result .columns) (q .ensures) (columns-faults-most (a .n) (a .g) (a .columns .now)) (o .result) (a .columns .now) (a .out .now) (l .last .1 .1 .1 .1 .0) (l .result) (o .ensures) (l .ensures)
+    given-fills (q .ensures) (o .result) (a .columns .now) (a .out .now) (l .last .1 .1 .1 .1 .0) (l .result) (o .ensures) (l .ensures)
 
 pub list-runs-of-columns-spec : {M : Type 1} → statement M
 list-runs-of-columns-spec =

@@ -3,9 +3,6 @@ use borrow.Author.Needs.{needs}
 use Rattle.forms.proofs.runs_of_design.Statement.{statement}
 use Rattle.forms.proofs.runs_of_design.Tie as tie
 use Rattle.forms.specs.Made.{given-gives}
-use Rattle.regular.specs.Refusals.{designFaults}
-use Rattle.regular.specs.Columns.{planOf}
-use Prim.Native.Nat.{_-_}
 
 admit-design-requires : tie.Need-admit-design-requires
 admit-design-requires c κs = search needs
@@ -18,7 +15,7 @@ returns c =
     let a = c .before .before .before .args in
     let q = c .before .before .admit-design in
     let l = c .runs-of in
-    given-gives (designFaults (a .n) (a .g) (a .design)) (a .n) (a .g) (planOf (a .n) (a .n - a .g) (a .design .columns)) (q .result .number) (q .result .columns) (q .ensures) (a .design .columns) (l .result .number) (l .result .runs) (l .ensures)
+    given-gives (q .ensures) (a .design .columns) (l .result .number) (l .result .runs) (l .ensures)
 
 pub runs-of-design-spec : {M : Type 1} → statement M
 runs-of-design-spec = tie.close (tie.spec admit-design-requires runs-of-requires returns)

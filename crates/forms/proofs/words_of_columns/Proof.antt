@@ -1,12 +1,12 @@
 -- `forms::words_of_columns` meets its contract: the admitted plan is the columns'. Assumes nothing.
 use borrow.Author.Needs.{needs}
+use mathlib.Core.Path.{refl}
+use Rattle.admission.specs.Admission.{standard-from-high}
 use Rattle.forms.proofs.words_of_columns.Statement.{statement}
 use Rattle.forms.proofs.words_of_columns.Tie as tie
 use Rattle.forms.specs.Made.{words-fills}
-use Rattle.regular.specs.Refusals.{columnsFaults}
 use Rattle.regular.specs.Columns.{planOf}
 use Prim.Native.Nat.{_-_}
-use Rattle.regular.specs.RefusalLaws.{columns-faults-most}
 
 admit-columns-requires : tie.Need-admit-columns-requires
 admit-columns-requires c κs = search needs
@@ -22,7 +22,7 @@ returns c =
     let a = c .before .before .before .before .before .before .before .args in
     let q = c .before .before .before .before .admit-columns in
     let l = c .before .before .lend-words in
-    words-fills (columnsFaults (a .n) (a .g) (a .columns .now)) (a .n) (a .g) (planOf (a .n) (a .n - a .g) (a .columns .now)) (q .result .number) (q .result .columns) (q .ensures) (columns-faults-most (a .n) (a .g) (a .columns .now)) (a .out .now) (l .last .1 .1 .1 .0) (l .result) (l .ensures)
+    words-fills (q .ensures) (planOf (a .n) (a .n - a .g) (a .columns .now)) (standard-from-high (q .ensures) refl) (a .out .now) (l .last .1 .1 .1 .0) (l .result) (l .ensures)
 
 pub words-of-columns-spec : {M : Type 1} → statement M
 words-of-columns-spec =

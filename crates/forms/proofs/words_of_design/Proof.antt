@@ -1,12 +1,12 @@
 -- `forms::words_of_design` meets its contract: the admitted plan is the record's. Assumes nothing.
 use borrow.Author.Needs.{needs}
+use mathlib.Core.Path.{refl}
+use Rattle.admission.specs.Admission.{standard-from-high}
 use Rattle.forms.proofs.words_of_design.Statement.{statement}
 use Rattle.forms.proofs.words_of_design.Tie as tie
 use Rattle.forms.specs.Made.{words-fills}
-use Rattle.regular.specs.Refusals.{designFaults}
 use Rattle.regular.specs.Columns.{planOf}
 use Prim.Native.Nat.{_-_}
-use Rattle.regular.specs.RefusalLaws.{design-faults-most}
 
 admit-design-requires : tie.Need-admit-design-requires
 admit-design-requires c κs = search needs
@@ -22,7 +22,7 @@ returns c =
     let a = c .before .before .before .before .before .before .args in
     let q = c .before .before .before .before .admit-design in
     let l = c .before .before .lend-words in
-    words-fills (designFaults (a .n) (a .g) (a .design)) (a .n) (a .g) (planOf (a .n) (a .n - a .g) (a .design .columns)) (q .result .number) (q .result .columns) (q .ensures) (design-faults-most (a .n) (a .g) (a .design)) (a .out .now) (l .last .1 .1 .1 .0) (l .result) (l .ensures)
+    words-fills (q .ensures) (planOf (a .n) (a .n - a .g) (a .design .columns)) (standard-from-high (q .ensures) refl) (a .out .now) (l .last .1 .1 .1 .0) (l .result) (l .ensures)
 
 pub words-of-design-spec : {M : Type 1} → statement M
 words-of-design-spec =

@@ -1,10 +1,7 @@
--- `measures::distances_of_runs` meets its contract: the plan with its first run switched to high is admitted; its distances from there are those from the first run. Assumes nothing.
+-- `measures::distances_of_runs` meets its contract: the plan is admitted, and has the distance counts of its standard columns. Assumes nothing.
 use borrow.Author.Needs.{needs}
-use lib.ListN.{getD}
-use Rattle.regular.specs.RefusalLaws.{runs-faults-most}
-use Rattle.regular.specs.Runs.{runsOf}
 use Rattle.admission.specs.Admission.{ready}
-use Rattle.measures.specs.Measured.{distances-switches}
+use Rattle.measures.specs.Measured.{distances-fills}
 use Rattle.measures.proofs.distances_of_runs.Statement.{statement}
 use Rattle.measures.proofs.distances_of_runs.Tie as tie
 
@@ -21,10 +18,9 @@ same-length c = search needs
 
 returns : tie.Need-returns
 returns c =
-    let a = c .before .before .before .before .before .before .before .args in
     let p = c .before .before .before .before .admit-runs in
     let l = c .before .before .lend-distances in
-    distances-switches (getD (a .runs .now) 0 0) (runsOf (a .runs .now)) (p .ensures) (runs-faults-most (a .n) (a .g) (a .runs .now)) (l .ensures)
+    distances-fills (p .ensures) (l .ensures)
 
 pub distances-of-runs-spec : {M : Type 1} → statement M
 distances-of-runs-spec =

@@ -1,10 +1,7 @@
--- `measures::list_resolution_of_runs` meets its contract: the plan with its first run switched to high is admitted; its resolution goes into the list. Assumes nothing.
+-- `measures::list_resolution_of_runs` meets its contract: the plan is admitted, and has the resolution of its standard columns. Assumes nothing.
 use borrow.Author.Needs.{needs}
-use lib.ListN.{getD}
-use Rattle.regular.specs.Runs.{runsOf}
-use Rattle.regular.specs.RefusalLaws.{runs-faults-most}
 use Rattle.admission.specs.Admission.{ready}
-use Rattle.measures.specs.Measured.{resolution-switches, listed-fills}
+use Rattle.measures.specs.Measured.{resolution-fills}
 use Rattle.measures.proofs.list_resolution_of_runs.Statement.{statement}
 use Rattle.measures.proofs.list_resolution_of_runs.Tie as tie
 
@@ -24,10 +21,9 @@ same-length c = search needs
 
 returns : tie.Need-returns
 returns c =
-    let a = c .before .before .before .before .before .before .before .before .args in
     let p = c .before .before .before .before .before .admit-runs in
     let l = c .before .before .before .before .resolution in
-    listed-fills (runs-faults-most (a .n) (a .g) (a .runs .now)) (resolution-switches (getD (a .runs .now) 0 0) (runsOf (a .runs .now)) (p .ensures) (l .ensures)) (c .before .before .lend-resolution .ensures)
+    resolution-fills (p .ensures) (l .ensures) (c .before .before .lend-resolution .ensures)
 
 pub list-resolution-of-runs-spec : {M : Type 1} → statement M
 list-resolution-of-runs-spec =

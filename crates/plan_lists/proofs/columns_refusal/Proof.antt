@@ -1,6 +1,5 @@
 -- `plan_lists::columns_refusal` meets its contract: the plan is admitted, then its words are judged. Assumes nothing.
 use borrow.Author.Needs.{needs}
-use Rattle.regular.specs.RefusalLaws.{columns-faults-most}
 use Rattle.admission.specs.Admission.{ready}
 use Rattle.plan_lists.specs.Judging.{judged}
 use Rattle.plan_lists.proofs.columns_refusal.Statement.{statement}
@@ -14,9 +13,8 @@ wanted-requires c κs = λ e. ready (c .admit-columns .ensures) e
 
 returns : tie.Need-returns
 returns c =
-    let a = c .before .before .before .args in
     let q = c .before .admit-columns in
-    judged (q .result .number) (columns-faults-most (a .n) (a .g) (a .list .now)) (q .ensures) (c .wanted .ensures)
+    judged (q .ensures) (c .wanted .ensures)
 
 pub columns-refusal-spec : {M : Type 1} → statement M
 columns-refusal-spec = tie.close (tie.spec admit-columns-requires wanted-requires returns)

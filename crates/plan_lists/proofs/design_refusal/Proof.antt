@@ -1,6 +1,5 @@
 -- `plan_lists::design_refusal` meets its contract: the plan is admitted, then its words are judged. Assumes nothing.
 use borrow.Author.Needs.{needs}
-use Rattle.regular.specs.RefusalLaws.{design-faults-most}
 use Rattle.admission.specs.Admission.{ready}
 use Rattle.plan_lists.specs.Judging.{judged}
 use Rattle.plan_lists.proofs.design_refusal.Statement.{statement}
@@ -14,9 +13,8 @@ wanted-requires c κs = λ e. ready (c .admit-design .ensures) e
 
 returns : tie.Need-returns
 returns c =
-    let a = c .before .before .args in
     let q = c .before .admit-design in
-    judged (q .result .number) (design-faults-most (a .n) (a .g) (a .design)) (q .ensures) (c .wanted .ensures)
+    judged (q .ensures) (c .wanted .ensures)
 
 pub design-refusal-spec : {M : Type 1} → statement M
 design-refusal-spec = tie.close (tie.spec admit-design-requires wanted-requires returns)

@@ -9,7 +9,7 @@ use Rattle.smallest_form.proofs.form_each.Tie as tie
 use borrow.Author.Needs.{needs}
 
 abbrev Inv-loop : tie.InvT-loop
-Inv-loop n g plans forms₀ witnesses₀ base₀ forms witnesses base = ReducedTo n (n - g) plans base forms₀ forms witnesses₀ witnesses
+Inv-loop n g plans forms₀ witnesses₀ base₀ forms witnesses base = ReducedTo n g plans base forms₀ forms witnesses₀ witnesses
 
 abbrev μ-loop : tie.MeasureT-loop
 μ-loop n g plans forms₀ witnesses₀ base₀ forms witnesses base = length plans - base
@@ -124,7 +124,7 @@ returns c =
     let a = c .before .before .before .before .before .args in
     let l = c .before .loop in
     let e : l .base ≡ length (a .plans .now) = omega (arith, l .inv .within, c .loop-test .left) in
-    subst (λ (b : ℕ). ReducedTo (a .n) (a .n - a .g) (a .plans .now) b (a .forms .now) (l .forms) (a .witnesses .now) (l .witnesses)) e (l .inv)
+    subst (λ (b : ℕ). ReducedTo (a .n) (a .g) (a .plans .now) b (a .forms .now) (l .forms) (a .witnesses .now) (l .witnesses)) e (l .inv)
 
 pub form-each-spec : {M : Type 1} → statement M
 form-each-spec =

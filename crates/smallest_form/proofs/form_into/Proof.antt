@@ -1,13 +1,12 @@
 -- `smallest_form::form_into` meets its contract: the columns are accepted and the lists have the places, so the form is found and lent. Assumes nothing.
-use Prim.Native.Nat.{_-_, _≤_}
-use mathlib.Core.Path.{_≡_, refl, subst, _∙_}
+use Prim.Native.Nat.{ℕ, _-_, _≤_}
+use mathlib.Core.Path.{refl, subst, _∙_}
 use native.Mathlib.Omega.{arith}
 use lib.ListN.{length}
-use Rattle.regular.specs.Columns.{planOf}
-use Rattle.regular.specs.Refusals.{columnsFaults}
-use Rattle.regular.specs.Same.{Carries}
+use Rattle.regular.specs.Given.{ofColumns}
+use Rattle.regular.specs.SmallestAnswers.{Formed}
 use Rattle.lent.specs.Lends.{lends-lent}
-use Rattle.smallest_form.specs.Placed.{formed-accepted, formed-mask, lent-smallest, lent-carries}
+use Rattle.smallest_form.specs.Placed.{formed-accepted, formed-mask, lent-form}
 use Rattle.smallest_form.proofs.form_into.Statement.{statement}
 use Rattle.smallest_form.proofs.form_into.Tie as tie
 use borrow.Author.Needs.{needs}
@@ -20,10 +19,9 @@ lend-first-requires c κs =
     let a = c .before .before .before .before .before .before .before .before .before .args in
     let p = c .before .before .before .before .before .before .before .before .before .pre in
     let f = c .before .before .before .before .form-of-columns in
-    let s = planOf (a .n) (a .n - a .g) (a .columns .now) in
     let zs = f .last .1 .1 .1 .1 .0 in
     let h : a .n ≤ length (a .witness .now) = omega (arith, p .2) in
-    let e = formed-accepted (columnsFaults (a .n) (a .g) (a .columns .now)) (a .n) (a .g) s (λ mask. mask ≡ 0) 0 (a .witness .now) zs (f .result) (f .ensures) (p .0) refl h in
+    let e = formed-accepted (f .ensures) (p .0) h in
     f .ensures .sizes e .most
 
 same-length : tie.Need-same-length
@@ -37,19 +35,17 @@ returns c =
     let a = c .before .before .before .before .before .before .before .before .before .before .before .before .args in
     let p = c .before .before .before .before .before .before .before .before .before .before .before .before .pre in
     let f = c .before .before .before .before .before .before .before .form-of-columns in
-    let s = planOf (a .n) (a .n - a .g) (a .columns .now) in
     let zs = f .last .1 .1 .1 .1 .0 in
     let h : a .n ≤ length (a .witness .now) = omega (arith, p .2) in
-    let e = formed-accepted (columnsFaults (a .n) (a .g) (a .columns .now)) (a .n) (a .g) s (λ mask. mask ≡ 0) 0 (a .witness .now) zs (f .result) (f .ensures) (p .0) refl h in
+    let e = formed-accepted (f .ensures) (p .0) h in
     let l = c .before .before .lend-first in
     let filled = l .last .1 .1 .0 in
     let lent = lends-lent (a .n) (f .result .design .columns) (a .out .now) filled (l .result) (omega (arith, p .1)) (l .ensures) in
+    let b = f .ensures .made in
     record {
-      smallest = lent-smallest (columnsFaults (a .n) (a .g) (a .columns .now)) (a .n) (a .g) s (λ mask. mask ≡ 0) 0 (a .witness .now) zs (f .result) (f .ensures) e (a .out .now) filled lent;
-      witness = subst (Carries (a .n) s (planOf (a .n) (a .n - a .g) filled) zs)
-          (formed-mask (columnsFaults (a .n) (a .g) (a .columns .now)) (a .n) (a .g) s 0 (a .witness .now) zs (f .result) (f .ensures))
-          (lent-carries (columnsFaults (a .n) (a .g) (a .columns .now)) (a .n) (a .g) s (λ mask. mask ≡ 0) 0 (a .witness .now) zs (f .result) (f .ensures) e (a .out .now) filled lent);
-      size = (l .ensures .size ∙ p .1, f .ensures .size ∙ p .2);
+      form = subst (Formed (a .n) (a .n - a .g) (ofColumns (a .n) (a .g) (a .columns .now)) filled zs) (formed-mask (f .ensures) refl)
+          (lent-form (b .design e .columns) lent);
+      size = (l .ensures .size ∙ p .1, b .size ∙ p .2);
     }
 
 pub form-into-spec : {M : Type 1} → statement M

@@ -1,13 +1,8 @@
 -- `smallest_form::list_smallest_of_runs` meets its contract: the list and the lent list are judged first, then the plan; its form is lent and looked for. Assumes nothing.
-use mathlib.Core.Path.{_≡_}
-use Rattle.regular.specs.Runs.{runsOf}
-use Rattle.regular.specs.Same.{moved}
 use native.Mathlib.Omega.{arith}
-use lib.ListN.{length, getD}
-use Rattle.regular.specs.Refusals.{runsFaults}
-use Rattle.regular.specs.RefusalLaws.{runs-faults-most}
+use lib.ListN.{length}
 use Rattle.lent.specs.Lending.{lending-accepted}
-use Rattle.smallest_form.specs.Others.{others, others-most, others-lowest, others-number}
+use Rattle.smallest_form.specs.Others.{others-lowest, others-number}
 use Rattle.smallest_form.specs.Placed.{formed-other, formed-into}
 use Rattle.smallest_form.proofs.list_smallest_of_runs.Statement.{statement}
 use Rattle.smallest_form.proofs.list_smallest_of_runs.Tie as tie
@@ -29,7 +24,8 @@ placed-into-requires c κs = λ e.
     let o = c .before .before .before .before .before .lending in
     let f = c .before .before .before .form-of-runs in
     let z = f .ensures .sizes e in
-    let y = formed-other (runsFaults (a .n) (a .g) (a .runs .now)) (a .n) (a .g) (runsOf (a .runs .now)) (λ mask. mask ≡ moved (f .last .1 .1 .1 .1 .0) (a .n) (getD (a .runs .now) 0 0)) (o .result) (a .witness .now) (f .last .1 .1 .1 .1 .0) (f .result) (f .ensures) e in
+    let low = others-lowest (a .n) (a .g) (a .list .now) (a .n) (a .out .now) (k .result) (o .result) (k .ensures) (o .ensures) in
+    let y = formed-other (f .ensures) e in
     (z .some, z .most, lending-accepted (k .result) (a .n) (length (a .out .now)) (o .result) (o .ensures) y .1)
 
 same-length : tie.Need-same-length
@@ -45,9 +41,8 @@ returns c =
     let o = c .before .before .before .before .before .before .before .before .lending in
     let f = c .before .before .before .before .before .before .form-of-runs in
     let p = c .before .before .placed-into in
-    formed-into (runsFaults (a .n) (a .g) (a .runs .now)) (others (a .n) (a .g) (a .list .now) (a .n) (a .out .now)) (runs-faults-most (a .n) (a .g) (a .runs .now)) (others-most (a .n) (a .g) (a .list .now) (a .n) (a .out .now)) (a .n) (a .g) (runsOf (a .runs .now)) (λ mask. mask ≡ moved (f .last .1 .1 .1 .1 .0) (a .n) (getD (a .runs .now) 0 0)) (o .result)
-    (others-lowest (a .n) (a .g) (a .list .now) (a .n) (a .out .now) (k .result) (o .result) (k .ensures) (o .ensures)) (a .witness .now) (f .last .1 .1 .1 .1 .0) (f .result) (f .ensures)
-    (a .list .now) (a .out .now) (p .last .1 .1 .1 .0) (p .result) (p .ensures)
+    let low = others-lowest (a .n) (a .g) (a .list .now) (a .n) (a .out .now) (k .result) (o .result) (k .ensures) (o .ensures) in
+    formed-into low (f .ensures) (p .last .1 .1 .1 .0) (p .result) (p .ensures)
 
 pub list-smallest-of-runs-spec : {M : Type 1} → statement M
 list-smallest-of-runs-spec =

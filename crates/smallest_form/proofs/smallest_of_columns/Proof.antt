@@ -1,14 +1,12 @@
 -- `smallest_form::smallest_of_columns` meets its contract: the list and the lent list are judged first, then the plan; its form is lent and looked for. Assumes nothing.
-use Prim.Native.Nat.{ℕ, _-_}
-use mathlib.Core.Path.{_≡_, subst, _∙_}
-use Rattle.regular.specs.Columns.{planOf}
 use native.Mathlib.Omega.{arith}
 use lib.ListN.{length}
-use Rattle.regular.specs.Refusals.{columnsFaults, LentFault, either}
-use Rattle.regular.specs.RefusalLaws.{columns-faults-most}
+use Prim.Native.Nat.{ℕ}
+use mathlib.Core.Path.{refl, subst, _∙_}
+use Rattle.regular.specs.Given.{ofColumns}
 use Rattle.regular.specs.SmallestAnswers.{ReducesInto}
 use Rattle.lent.specs.Lending.{lending-accepted}
-use Rattle.smallest_form.specs.Others.{others, others-most, others-lowest, others-number}
+use Rattle.smallest_form.specs.Others.{others-lowest, others-number}
 use Rattle.smallest_form.specs.Placed.{formed-other, formed-mask, formed-into}
 use Rattle.smallest_form.proofs.smallest_of_columns.Statement.{statement}
 use Rattle.smallest_form.proofs.smallest_of_columns.Tie as tie
@@ -30,7 +28,8 @@ placed-into-requires c κs = λ e.
     let o = c .before .before .before .before .before .lending in
     let f = c .before .before .before .form-of-columns in
     let z = f .ensures .sizes e in
-    let y = formed-other (columnsFaults (a .n) (a .g) (a .columns .now)) (a .n) (a .g) (planOf (a .n) (a .n - a .g) (a .columns .now)) (λ mask. mask ≡ 0) (o .result) (a .witness .now) (f .last .1 .1 .1 .1 .0) (f .result) (f .ensures) e in
+    let low = others-lowest (a .n) (a .g) (a .list .now) (a .n) (a .out .now) (k .result) (o .result) (k .ensures) (o .ensures) in
+    let y = formed-other (f .ensures) e in
     (z .some, z .most, lending-accepted (k .result) (a .n) (length (a .out .now)) (o .result) (o .ensures) y .1)
 
 same-length : tie.Need-same-length
@@ -46,12 +45,11 @@ returns c =
     let o = c .before .before .before .before .before .before .before .before .lending in
     let f = c .before .before .before .before .before .before .form-of-columns in
     let p = c .before .before .placed-into in
-    let z = p .ensures .mask ∙ formed-mask (columnsFaults (a .n) (a .g) (a .columns .now)) (a .n) (a .g) (planOf (a .n) (a .n - a .g) (a .columns .now)) (o .result) (a .witness .now) (f .last .1 .1 .1 .1 .0) (f .result) (f .ensures) in
-    subst (λ (k : ℕ). ReducesInto (either (either (columnsFaults (a .n) (a .g) (a .columns .now)) (others (a .n) (a .g) (a .list .now) (a .n) (a .out .now))) (LentFault (a .n) (a .witness .now))) (a .n) (a .n - a .g) (planOf (a .n) (a .n - a .g) (a .columns .now)) (λ mask. mask ≡ 0) (a .list .now) (a .out .now) (p .last .1 .1 .1 .0)
-    (a .witness .now) (f .last .1 .1 .1 .1 .0) (p .result .number) k (p .result .place)) z
-    (formed-into (columnsFaults (a .n) (a .g) (a .columns .now)) (others (a .n) (a .g) (a .list .now) (a .n) (a .out .now)) (columns-faults-most (a .n) (a .g) (a .columns .now)) (others-most (a .n) (a .g) (a .list .now) (a .n) (a .out .now)) (a .n) (a .g) (planOf (a .n) (a .n - a .g) (a .columns .now)) (λ mask. mask ≡ 0) (o .result)
-    (others-lowest (a .n) (a .g) (a .list .now) (a .n) (a .out .now) (k .result) (o .result) (k .ensures) (o .ensures)) (a .witness .now) (f .last .1 .1 .1 .1 .0) (f .result) (f .ensures)
-    (a .list .now) (a .out .now) (p .last .1 .1 .1 .0) (p .result) (p .ensures))
+    let low = others-lowest (a .n) (a .g) (a .list .now) (a .n) (a .out .now) (k .result) (o .result) (k .ensures) (o .ensures) in
+    let given = ofColumns (a .n) (a .g) (a .columns .now) in
+    subst (λ (mask : ℕ). ReducesInto (a .n) (a .g) given (a .list .now) (a .out .now) (p .last .1 .1 .1 .0) (a .witness .now) (f .last .1 .1 .1 .1 .0) (p .result .number) mask (p .result .place))
+    (p .ensures .mask ∙ formed-mask (f .ensures) refl)
+    (formed-into low (f .ensures) (p .last .1 .1 .1 .0) (p .result) (p .ensures))
 
 pub smallest-of-columns-spec : {M : Type 1} → statement M
 smallest-of-columns-spec =

@@ -1,5 +1,4 @@
 -- `smallest_form::smallest_of_plans` meets its contract: all plans and both lists are judged before any form is written. Assumes nothing.
-use Prim.Native.Nat.{_-_}
 use mathlib.Core.Path.{subst}
 use lib.ListN.{length}
 use Rattle.regular.specs.PlanLists.{plansFaults}
@@ -30,7 +29,7 @@ returns c =
     let d = length (a .plans .now) in
     let low = others-lowest (a .n) (a .g) (a .plans .now) d (a .forms .now) (k .result) (v .result) (k .ensures) (v .ensures) in
     let all = lending-lowest (others (a .n) (a .g) (a .plans .now) d (a .forms .now)) (v .result) d (a .witnesses .now) (w .result) low (others-most (a .n) (a .g) (a .plans .now) d (a .forms .now)) (w .ensures) in
-    each-refused (either (others (a .n) (a .g) (a .plans .now) d (a .forms .now)) (LentFault d (a .witnesses .now))) (a .n) (a .n - a .g) (a .plans .now) (a .forms .now) (a .witnesses .now) (w .result) (c .if1 .taken) all
+    each-refused (a .n) (a .g) (a .plans .now) (a .forms .now) (a .witnesses .now) (w .result) (c .if1 .taken) all
 
 form-each-requires : tie.Need-form-each-requires
 form-each-requires c κs =
@@ -67,7 +66,7 @@ returns-2 c =
     let x = lending-accepted (k .result) d (length (a .forms .now)) (v .result) (v .ensures) (y .0) in
     let z = subst (Lowest (plansFaults (a .n) (a .g) (a .plans .now))) (x .0) (three-plans (a .n) (a .g) (a .plans .now) (k .result) (k .ensures)) in
     let f = c .before .before .before .before .form-each in
-    each-reduced (either (others (a .n) (a .g) (a .plans .now) d (a .forms .now)) (LentFault d (a .witnesses .now))) (a .n) (a .n - a .g) (a .plans .now) (a .forms .now) (f .last .1 .1 .1 .0) (a .witnesses .now) (f .last .1 .1 .1 .1 .0) (plans-some (a .n) (a .g) (a .plans .now) z)
+    each-reduced (a .n) (a .g) (a .plans .now) (a .forms .now) (f .last .1 .1 .1 .0) (a .witnesses .now) (f .last .1 .1 .1 .1 .0) (plans-some (a .n) (a .g) (a .plans .now) z)
     (subst (Lowest (either (others (a .n) (a .g) (a .plans .now) d (a .forms .now)) (LentFault d (a .witnesses .now)))) e all) (f .ensures)
 
 pub smallest-of-plans-spec : {M : Type 1} → statement M

@@ -4,8 +4,9 @@ use Prim.Native.Nat.{_≤_}
 use native.Mathlib.Omega.{arith}
 use borrow.Author.Needs.{needs}
 use borrow.Author.Tests.{not-false, not-true}
-use Rattle.regular.specs.Comparisons.{Witness, Checks}
-use Rattle.regular.specs.Refusals.{runsFaults, either}
+use Rattle.regular.specs.Comparisons.{Witness, ChecksWitness}
+use Rattle.regular.specs.Runs.{runsOf}
+use Rattle.regular.specs.Given.{ofRuns}
 use Rattle.regular.specs.declared.Checked.{Checked}
 use Rattle.witness_check.specs.Verdict.{check-refused, check-size, check-no, check-yes, not-named, not-within, not-partnered}
 use Rattle.witness_check.proofs.check_witness.Statement.{statement}
@@ -25,9 +26,10 @@ module _ (c : tie.Else1) where
       check-size (a .n) (a .g) (a .first .now) (a .second .now) (a .names .now) (a .mask) (p .result .number) (q .result .number) (l .result) (p .ensures .lowest) (q .ensures .lowest) (l .ensures) (c .if1 .left)
 
   abbrev Claimed : Type 0
-  Claimed = Witness (start .args .n) (start .args .first .now) (start .args .second .now) (start .args .names .now) (start .args .mask)
+  Claimed = Witness (start .args .n) (runsOf (start .args .first .now)) (runsOf (start .args .second .now)) (start .args .names .now) (start .args .mask)
 
-  says-no : (Claimed → ⊥) → Checks (either (runsFaults (start .args .n) (start .args .g) (start .args .first .now)) (runsFaults (start .args .n) (start .args .g) (start .args .second .now))) Claimed Checked.No
+  says-no : (Claimed → ⊥) → ChecksWitness (start .args .n) (ofRuns (start .args .n) (start .args .g) (start .args .first .now)) (ofRuns (start .args .n) (start .args .g) (start .args .second .now))
+      (start .args .names .now) (start .args .mask) Checked.No
   says-no h =
       let a = start .args in
       let p = c .before .before .before .admit-runs in
