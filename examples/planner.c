@@ -253,8 +253,8 @@ static int print_smallest(size_t n, size_t g, size_t r, const char *text)
         return refuse(found.number);
     }
     uint8_t smallest[PLAN_FACTORS], witness[PLAN_FACTORS];
-    struct plan_place form = plan_smallest_of_columns(n, g, given.bytes, given.count, entries, found.count * n, smallest, PLAN_FACTORS,
-                                                      witness, PLAN_FACTORS);
+    struct plan_form form = plan_smallest_of_columns(n, g, given.bytes, given.count, entries, found.count * n, smallest, PLAN_FACTORS,
+                                                     witness, PLAN_FACTORS);
     if (form.number != PLAN_ACCEPTED) {
         return refuse(form.number);
     }

@@ -143,26 +143,23 @@ uint32_t plan_check_witness(size_t n, size_t g, const uint16_t *first, size_t fi
  *   list      plans that it is looked for in, such as a catalogue: their columns one plan after another, N bytes each; may be empty
  *   smallest  lent, N places: the columns of the smallest form, rising
  *   witness   lent, N places: factor f of the given plan becomes factor witness[f] of the smallest form, each of 0 to N - 1 being used once
- * The answer is a number; the first place of the smallest form in the list, from 1, 0 if it is absent or the call refused; and for a run table
- * the mask of factors of the smallest form whose levels are switched after renaming, 0 if refused. Renaming and then switching turn the given
- * plan's set of runs into that of the smallest form; for columns no levels are switched. The list is refused as a plan is: PLAN_REFUSED_COUNT
- * if its count is no multiple of N, PLAN_REFUSED_RANGE, _DEPENDENT or _SHORT_WORD for a fault of some plan in it. PLAN_REFUSED_PLACES if either
- * lent list has fewer than N places. */
-struct plan_place {
-    uint8_t number;
-    size_t place;
-};
-
-struct plan_mask {
+ * The answer tells of the form:
+ *   number    PLAN_ACCEPTED or the refusal; a refused call answers mask 0 and place 0
+ *   mask      the factors of the smallest form whose levels are switched after renaming; always 0 for columns
+ *   place     the first place of the smallest form in the list, from 1; 0 if it is absent
+ * Renaming and then switching turn the given plan's set of runs into that of the smallest form. The list is refused as a plan is:
+ * PLAN_REFUSED_COUNT if its count is no multiple of N, PLAN_REFUSED_RANGE, _DEPENDENT or _SHORT_WORD for a fault of some plan in it.
+ * PLAN_REFUSED_PLACES if either lent list has fewer than N places. */
+struct plan_form {
     uint8_t number;
     uint16_t mask;
     size_t place;
 };
 
-struct plan_place plan_smallest_of_columns(size_t n, size_t g, const uint8_t *columns, size_t column_count, const uint8_t *list,
-                                           size_t list_count, uint8_t *smallest, size_t smallest_places, uint8_t *witness,
-                                           size_t witness_places);
-struct plan_mask plan_smallest_of_runs(size_t n, size_t g, const uint16_t *runs, size_t run_count, const uint8_t *list, size_t list_count,
+struct plan_form plan_smallest_of_columns(size_t n, size_t g, const uint8_t *columns, size_t column_count, const uint8_t *list,
+                                          size_t list_count, uint8_t *smallest, size_t smallest_places, uint8_t *witness,
+                                          size_t witness_places);
+struct plan_form plan_smallest_of_runs(size_t n, size_t g, const uint16_t *runs, size_t run_count, const uint8_t *list, size_t list_count,
                                        uint8_t *smallest, size_t smallest_places, uint8_t *witness, size_t witness_places);
 
 /* The smallest forms of several plans in one call: their columns one plan after another, N bytes each, plan_count bytes in all.

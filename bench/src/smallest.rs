@@ -10,8 +10,8 @@ use std::time::Instant;
 
 fn by_the_library(n: usize, g: usize, columns: &[u8]) {
     let (mut smallest, mut witness) = ([0; 16], [0; 16]);
-    let place = plan_smallest_of_columns(n, g, columns, &[], &mut smallest, &mut witness);
-    assert_eq!(place.number, 0, "the plan is accepted");
+    let form = plan_smallest_of_columns(n, g, columns, &[], &mut smallest, &mut witness);
+    assert_eq!(form.number, 0, "the plan is accepted");
     black_box(smallest);
 }
 

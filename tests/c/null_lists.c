@@ -56,12 +56,7 @@ static struct outcome of_number(uint32_t answer)
     return outcome(answer, 0, 0);
 }
 
-static struct outcome of_place(struct plan_place answer)
-{
-    return outcome(answer.number, 0, answer.place);
-}
-
-static struct outcome of_mask(struct plan_mask answer)
+static struct outcome of_form(struct plan_form answer)
 {
     return outcome(answer.number, answer.mask, answer.place);
 }
@@ -204,8 +199,8 @@ static void print_two_plans(void)
 
 static void print_smallest(void)
 {
-    SMALLEST(plan_smallest_of_columns, of_place, columns, 3);
-    SMALLEST(plan_smallest_of_runs, of_mask, runs, 4);
+    SMALLEST(plan_smallest_of_columns, of_form, columns, 3);
+    SMALLEST(plan_smallest_of_runs, of_form, runs, 4);
     TRY("plan_smallest_of_plans, no plans", of_number, plan_smallest_of_plans(3, 1, NULL, 0, bytes, 3, more_bytes, 3),
         plan_smallest_of_plans(3, 1, columns, 0, bytes, 3, more_bytes, 3));
     TRY("plan_smallest_of_plans, no forms", of_number, plan_smallest_of_plans(3, 1, columns, 3, NULL, 0, more_bytes, 3),

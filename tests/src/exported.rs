@@ -1,6 +1,6 @@
 //! The exported functions, each once: its name, what it takes and what it answers.
 
-use planner::{Bytes, Entries, MaskedPlace, Place};
+use planner::{Bytes, Entries, FormAnswer};
 use std::fmt::Debug;
 
 /// Hands every function to a macro: its sizes; the lists that it reads; the lists that it fills; its mask, if it takes one; its answer.
@@ -26,8 +26,8 @@ macro_rules! exported {
             plan_compare_columns(n, g; first: u8, second: u8; witness: u8) -> u32;
             plan_compare_runs(n, g; first: u16, second: u16; witness: u8) -> u32;
             plan_check_witness(n, g; first: u16, second: u16, names: u8;; mask) -> u32;
-            plan_smallest_of_columns(n, g; columns: u8, list: u8; smallest: u8, witness: u8) -> Place;
-            plan_smallest_of_runs(n, g; runs: u16, list: u8; smallest: u8, witness: u8) -> MaskedPlace;
+            plan_smallest_of_columns(n, g; columns: u8, list: u8; smallest: u8, witness: u8) -> FormAnswer;
+            plan_smallest_of_runs(n, g; runs: u16, list: u8; smallest: u8, witness: u8) -> FormAnswer;
             plan_smallest_of_plans(n, g; plans: u8; forms: u8, witnesses: u8) -> u8;
             plan_catalogue(n, g, r;; columns: u8) -> Entries;
             plan_write_book(n, g, r; plans: u8; book: u8) -> Bytes;
@@ -61,13 +61,7 @@ impl Answer for u32 {
     }
 }
 
-impl Answer for Place {
-    fn numbers(self) -> [u64; 3] {
-        [self.number.into(), 0, self.place as u64]
-    }
-}
-
-impl Answer for MaskedPlace {
+impl Answer for FormAnswer {
     fn numbers(self) -> [u64; 3] {
         [self.number.into(), self.mask.into(), self.place as u64]
     }

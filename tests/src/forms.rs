@@ -7,7 +7,7 @@ use crate::check::renamings::is_witness;
 use crate::check::runs::runs_of_columns;
 use crate::check::smallest::smallest;
 use crate::guarded::{plan_smallest_of_columns, plan_smallest_of_plans, plan_smallest_of_runs};
-use planner::MaskedPlace;
+use planner::FormAnswer;
 
 /// A plan by columns or by a run table, and the list of plans, N columns each, one after another, in which its smallest form is looked for.
 #[derive(Clone, Debug)]
@@ -51,15 +51,12 @@ impl Lent {
     }
 }
 
-/// The call on the plan's form; the answer by columns has no mask.
-fn call(sought: &Sought, places: (usize, usize)) -> (MaskedPlace, Lent) {
+/// The call on the plan's form.
+fn call(sought: &Sought, places: (usize, usize)) -> (FormAnswer, Lent) {
     let Sought { n, g, .. } = *sought;
     let among = bytes(&sought.among);
     let (answer, lent) = Lent::call(places, |form, names| match sought.form {
-        Form::Columns => {
-            let found = plan_smallest_of_columns(n, g, &bytes(&sought.plan), &among, form, names);
-            MaskedPlace { number: found.number, mask: 0, place: found.place }
-        }
+        Form::Columns => plan_smallest_of_columns(n, g, &bytes(&sought.plan), &among, form, names),
         Form::Runs => plan_smallest_of_runs(n, g, &shorts(&sought.plan), &among, form, names),
         Form::Words => panic!("no call takes words"),
     });
@@ -74,7 +71,7 @@ fn first_place(n: usize, among: &[u32], form: &[u32]) -> usize {
 
 /// Compares one call with the form that is expected if it is accepted: the answer, its place, the columns, the witness run by run, and the places
 /// that it may not touch. Returns the answer.
-pub fn compare_sought(sought: &Sought, form: &[u32], places: (usize, usize)) -> MaskedPlace {
+pub fn compare_sought(sought: &Sought, form: &[u32], places: (usize, usize)) -> FormAnswer {
     let Sought { n, g, .. } = *sought;
     let plan = accepted(n, g, sought.form, &sought.plan).err().unwrap_or(0);
     let short = if places.0 < n || places.1 < n { 8 } else { 0 };
@@ -88,6 +85,7 @@ pub fn compare_sought(sought: &Sought, form: &[u32], places: (usize, usize)) -> 
     }
     let (columns, names) = lent.written(n);
     let first = if sought.form == Form::Runs { sought.plan.clone() } else { runs_of_columns(n - g, &sought.plan) };
+    assert!(sought.form == Form::Runs || answer.mask == 0, "a switch of columns: {answer:?} for {sought:?}");
     assert_eq!(columns, form, "the smallest form of {sought:?}");
     assert_eq!(answer.place, first_place(n, &sought.among, form), "the place of {sought:?}");
     assert!(

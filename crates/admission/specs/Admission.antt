@@ -16,7 +16,7 @@ use Rattle.regular.specs.Columns.{planOf}
 use Rattle.regular.specs.Given.{Given}
 use Rattle.regular.specs.GivenLaws.{StandsFor, lowest-same-lowest}
 use Rattle.regular.specs.declared.Admitted.{Admitted}
-use Rattle.standard.specs.Form.{StandardForm, StandardFor, Plain}
+use Rattle.standard.specs.Form.{StandardForm, StandardFor, DistinctNonzero}
 use Rattle.words.specs.Switches.{agree-trans}
 
 -- the plan p of n factors and g generators: refused with sixteen zeros, or accepted with its start and, that run being switched to 0, its standard columns
@@ -28,17 +28,17 @@ pub record Admission (n g : ℕ) (p : Given) (r : Admitted) : Type 0 where
   pub start : r .number ≡ 0 → (x : ℕ) → p .start x → x ≡ r .run
   pub within : r .number ≡ 0 → r .run < 2 ^ n
   pub standard : r .number ≡ 0 → StandardFor n (n - g) (switched (r .run) (p .plan)) (r .columns)
-  pub plain : r .number ≡ 0 → Plain n (r .columns)
+  pub distinct : r .number ≡ 0 → DistinctNonzero n (r .columns)
   pub unused : r .number ≡ 0 → (f : ℕ) → n ≤ f → getD (r .columns) f 0 ≡ 0
 
 -- columns in standard form, none of them 0 or standing twice, and sizes in bounds: those of an accepted plan
 pub record Ready (n g : ℕ) (a : List ℕ) : Type 0 where
   pub size : Size n g
   pub form : StandardForm n (n - g) a
-  pub plain : Plain n a
+  pub distinct : DistinctNonzero n a
 
 pub ready : {n g : ℕ} {p : Given} {r : Admitted} → Admission n g p r → r .number ≡ 0 → Ready n g (r .columns)
-ready ad e = record { size = ad .size e; form = ad .standard e .form; plain = ad .plain e }
+ready ad e = record { size = ad .size e; form = ad .standard e .form; distinct = ad .distinct e }
 
 -- the admitted plan, as it is given to what comes after: its faults are its number
 abbrev pub admitted : ℕ → ℕ → Admitted → Given
@@ -95,5 +95,5 @@ pub record Columned (n m : ℕ) (c : List ℕ) (r : Admitted) : Type 0 where
   pub refused : 0 < r .number → r .columns ≡ replicate 16 0
   pub start : r .run ≡ 0
   pub standard : r .number ≡ 0 → StandardFor n m (planOf n m c) (r .columns)
-  pub plain : r .number ≡ 0 → Plain n (r .columns)
+  pub distinct : r .number ≡ 0 → DistinctNonzero n (r .columns)
   pub unused : r .number ≡ 0 → (f : ℕ) → n ≤ f → getD (r .columns) f 0 ≡ 0

@@ -12,7 +12,7 @@ use Rattle.regular.specs.Refusals.{SizeFault, ColumnsFault, ListFault, either, 
 use Rattle.regular.specs.RefusalLaws.{lowest-same, lowest-first, lowest-then, size-most}
 use Rattle.regular.specs.Accepted.{size-accepted}
 use Rattle.regular.specs.declared.Admitted.{Admitted}
-use Rattle.standard.specs.Form.{StandardFor, Plain}
+use Rattle.standard.specs.Form.{StandardFor, DistinctNonzero}
 use Rattle.standard.specs.Runs.{plan-cols}
 use Rattle.standard.specs.Total.{total-cols}
 use Rattle.words.specs.Switches.{agree-trans, short-agree}
@@ -39,7 +39,7 @@ module _ (n g : ℕ) (plan : ℕ → Type 0) (s : Runs) (start : ℕ → Type 0)
     start = λ e. absurd (omega arith);
     within = λ e. absurd (omega arith);
     standard = λ e. absurd (omega arith);
-    plain = λ e. absurd (omega arith);
+    distinct = λ e. absurd (omega arith);
     unused = λ e. absurd (omega arith);
   })
 
@@ -55,7 +55,7 @@ module _ (n g : ℕ) (plan : ℕ → Type 0) (s : Runs) (start : ℕ → Type 0)
   plan-refused k h z l r e = refusal k r h e (lowest-then (SizeFault n g) plan k (size-accepted n g z) l)
 
   -- accepted
-  pub accepted : (run : ℕ) (a : List ℕ) → Size n g → Lowest plan 0 → ((x : ℕ) → start x → x ≡ run) → run < 2 ^ n → StandardFor n (n - g) (switched run s) a → Plain n a
+  pub accepted : (run : ℕ) (a : List ℕ) → Size n g → Lowest plan 0 → ((x : ℕ) → start x → x ≡ run) → run < 2 ^ n → StandardFor n (n - g) (switched run s) a → DistinctNonzero n a
       → ((f : ℕ) → n ≤ f → getD a f 0 ≡ 0) → Admission n g given (record { number = 0; run = run; columns = a })
   accepted run a z l from low st pl un = record {
     lowest = lowest-then (SizeFault n g) plan 0 (size-accepted n g z) l;
@@ -65,7 +65,7 @@ module _ (n g : ℕ) (plan : ℕ → Type 0) (s : Runs) (start : ℕ → Type 0)
     start = λ _. from;
     within = λ _. low;
     standard = λ _. st;
-    plain = λ _. pl;
+    distinct = λ _. pl;
     unused = λ _. un;
   }
 
@@ -80,7 +80,7 @@ array-refused n m c k r e h l = subst (Columned n m c) (sym e) (record {
   refused = λ _. refl;
   start = refl;
   standard = λ e. absurd (omega arith);
-  plain = λ e. absurd (omega arith);
+  distinct = λ e. absurd (omega arith);
   unused = λ e. absurd (omega arith);
 })
 
@@ -114,7 +114,7 @@ array-admission other n g c d r most z l same k =
       within = λ _. subst (λ (v : ℕ). v < 2 ^ n) (sym (k .start)) (pow-pos n);
       standard = λ e. subst (λ (v : ℕ). StandardFor n (n - g) (switched v (planOf n (n - g) d)) (r .columns)) (sym (k .start))
           (standard-unswitched n (n - g) (planOf n (n - g) d) (r .columns) (own e));
-      plain = k .plain;
+      distinct = k .distinct;
       unused = k .unused;
     }
 

@@ -9,8 +9,8 @@ ghost use Rattle.regular.specs.Refusals.{SizeFault, sizeFaults, Lowest};
 ghost use Rattle.regular.specs.Given.{ofWords, ofRuns, ofDesign, ofColumns};
 ghost use Rattle.regular.specs.RefusalLaws.{Lower};
 ghost use Rattle.admission.specs.Admission.{Admission, Columned};
+use bits::as_index;
 use bits::power;
-use bits::wide_byte;
 use regular::Admitted;
 use regular::Design;
 
@@ -96,7 +96,7 @@ pub fn admit_words(n: usize, g: usize, words: &[u16]) -> Admitted
         return refused(6);
     }
     let columns = found.columns;
-    if !column_forms::plain(n, columns) {
+    if !column_forms::distinct_nonzero(n, columns) {
         return refused(7);
     }
     Admitted {
@@ -126,7 +126,7 @@ pub fn admit_runs(n: usize, g: usize, runs: &[u16]) -> Admitted
         return refused(6);
     }
     let columns = found.columns;
-    if !column_forms::plain(n, columns) {
+    if !column_forms::distinct_nonzero(n, columns) {
         return refused(7);
     }
     let run = runs[0];
@@ -144,7 +144,7 @@ fn columns_below(n: usize, end: usize, columns: [u8; 16]) -> bool
 {
     let mut f = 0;
     while f < n {
-        if end <= wide_byte(columns[f]) {
+        if end <= as_index(columns[f]) {
             return false;
         }
         f += 1;
@@ -165,7 +165,7 @@ fn admit_array(n: usize, m: usize, columns: [u8; 16]) -> Admitted
         return refused(6);
     }
     let standard = found.columns;
-    if !column_forms::plain(n, standard) {
+    if !column_forms::distinct_nonzero(n, standard) {
         return refused(7);
     }
     Admitted {
@@ -198,10 +198,10 @@ pub fn admit_design(n: usize, g: usize, design: Design) -> Admitted
         return refused(number);
     }
     let m = n - g;
-    if wide_byte(design.factors) != n {
+    if as_index(design.factors) != n {
         return refused(4);
     }
-    if wide_byte(design.basics) != m {
+    if as_index(design.basics) != m {
         return refused(4);
     }
     let columns = design.columns;

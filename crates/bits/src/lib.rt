@@ -34,7 +34,7 @@ pub fn wide(x: u16) -> usize
 }
 
 // A column or another byte as an index.
-pub fn wide_byte(column: u8) -> usize
+pub fn as_index(column: u8) -> usize
     ensures { λ r. ⌜ (r ≡ column) × (r < 256) ⌝ }
 {
     column as usize

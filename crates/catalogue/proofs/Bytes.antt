@@ -12,7 +12,7 @@ use lib.Dec.{leb}
 use lib.ListN.{length, getD, take, drop, List·getD-append}
 use lib.Seq.{paste, length-paste, drop-paste, length-take-le, getD-append-add, getD-take, getD-drop, drop-drop}
 use Rattle.regular.specs.Catalogues.{ListsBytes}
-use Rattle.entries.specs.declared.Trail.{Trail}
+use Rattle.entries.specs.declared.WalkState.{WalkState}
 use Rattle.entries.specs.Tracing.{Followed}
 use Rattle.catalogue.specs.Turns.{Goes, Stops, Filling}
 use Rattle.catalogue.proofs.Turns.{with-entry, with-same, with-other, progress-none, progress-more, stopped}
@@ -36,7 +36,7 @@ module _ (n : ℕ) (c : List ℕ) (base : ℕ) (v : List ℕ) (room : base + n �
       ∙ List·getD-append (take base v) (take n c ++ drop (base + n) v) 0 j (omega (arith, length-take-le base v (omega arith))) ∙ getD-take base v j 0 h
 
 -- the loop
-pub filling-none : (n g r : ℕ) (v c : List ℕ) (trail : Trail) → Followed 0 [] trail → Filling n g r v v 0 0 c trail
+pub filling-none : (n g r : ℕ) (v c : List ℕ) (trail : WalkState) → Followed 0 [] trail → Filling n g r v v 0 0 c trail
 filling-none n g r v c trail h = record {
   all = λ _. [];
   progress = progress-none n g r (λ _. []) c trail h;
@@ -48,8 +48,8 @@ filling-none n g r v c trail h = record {
   rest = refl;
 }
 
-module _ (n g r : ℕ) (v w : List ℕ) (i base : ℕ) (c : List ℕ) (trail : Trail) (x : Filling n g r v w i base c trail) (len : ℕ) (e : len ≡ length v) where
-  pub filling-more : (d w' : List ℕ) (next : Trail) → Goes n g r i (leb n (len - base)) c d next → 16 ≡ length d → w' ≡ paste w base d n → Filling n g r v w' (i + 1) (base + n) d next
+module _ (n g r : ℕ) (v w : List ℕ) (i base : ℕ) (c : List ℕ) (trail : WalkState) (x : Filling n g r v w i base c trail) (len : ℕ) (e : len ≡ length v) where
+  pub filling-more : (d w' : List ℕ) (next : WalkState) → Goes n g r i (leb n (len - base)) c d next → 16 ≡ length d → w' ≡ paste w base d n → Filling n g r v w' (i + 1) (base + n) d next
   filling-more d w' onward t long p =
       let room = leb-true n (len - base) (t .room) in
       let fits : base + n ≤ length w = omega (arith, e, x .room, x .size) in
@@ -75,10 +75,10 @@ module _ (n g r : ℕ) (v w : List ℕ) (i base : ℕ) (c : List ℕ) (trail : T
       before j f h l = omega (arith, x .place, one-more j n, mul-le-mul-right {m = j + 1} {n = i} n (omega arith))
 
   -- there is room for the next entry, and what is left of the list falls
-  pub filling-room : (d : List ℕ) (next : Trail) → Goes n g r i (leb n (len - base)) c d next → base + n ≤ length v
+  pub filling-room : (d : List ℕ) (next : WalkState) → Goes n g r i (leb n (len - base)) c d next → base + n ≤ length v
   filling-room d next t = omega (arith, leb-true n (len - base) (t .room), e, x .room)
 
-  pub filling-falls : (d : List ℕ) (next : Trail) → Goes n g r i (leb n (len - base)) c d next → length v - (base + n) < length v - base
+  pub filling-falls : (d : List ℕ) (next : WalkState) → Goes n g r i (leb n (len - base)) c d next → length v - (base + n) < length v - base
   filling-falls d next t = omega (arith, filling-room d next t, t .sized .size .some)
 
   pub filling-stops : (number : ℕ) → Stops n g r i (leb n (len - base)) c number → ListsBytes n g r v w number i

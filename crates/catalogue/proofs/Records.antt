@@ -13,7 +13,7 @@ use lib.Seq.{getD-set-same, getD-set-other, drop-set-lt, drop-drop}
 use Rattle.regular.specs.Designs.{blank}
 use Rattle.regular.specs.declared.Design.{Design}
 use Rattle.regular.specs.Smallest.{Entry}
-use Rattle.entries.specs.declared.Trail.{Trail}
+use Rattle.entries.specs.declared.WalkState.{WalkState}
 use Rattle.entries.specs.Tracing.{Followed}
 use Rattle.catalogue.specs.declared.NextStop.{NextStop}
 use Rattle.catalogue.specs.declared.Stop.{Stop}
@@ -32,7 +32,7 @@ fails false _ = refl
 
 -- what a turn answers
 module _ (n g r i len : ℕ) (c : Stop) where
-  pub stepped-stops : (found : Bool) (number : ℕ) (d : List ℕ) (w : Trail) → Turned n g r i (ltb i len) (c .design .columns) found number d w → found ≡ false
+  pub stepped-stops : (found : Bool) (number : ℕ) (d : List ℕ) (w : WalkState) → Turned n g r i (ltb i len) (c .design .columns) found number d w → found ≡ false
       → Stepped n g r i len c (record { found = false; stop = c; answer = record { number = number; count = i } })
   stepped-stops found number d w t e = record {
     goes = λ q. absurd (clash (sym q));
@@ -41,7 +41,7 @@ module _ (n g r i len : ℕ) (c : Stop) where
     count = refl;
   }
 
-  pub stepped-goes : (found : Bool) (number : ℕ) (d : List ℕ) (w : Trail) (f b : ℕ) → f ≡ n → b ≡ n - g → Turned n g r i (ltb i len) (c .design .columns) found number d w → found ≡ true
+  pub stepped-goes : (found : Bool) (number : ℕ) (d : List ℕ) (w : WalkState) (f b : ℕ) → f ≡ n → b ≡ n - g → Turned n g r i (ltb i len) (c .design .columns) found number d w → found ≡ true
       → Stepped n g r i len c (record { found = true; stop = record { design = record { factors = f; basics = b; columns = d }; trail = w }; answer = record { number = 0; count = i } })
   stepped-goes found number d w f b p q t e = record {
     goes = λ _. t .goes e;

@@ -23,7 +23,7 @@ use Rattle.catalogue_laws.specs.Listing.{model-catalogue}
 use Rattle.catalogue_laws.specs.Model.{entries}
 use Rattle.catalogue_laws.specs.Steps.{First, bound}
 use Rattle.catalogue_laws.specs.Walked.{Begun, edge, catalogued, begun-room, begun-first}
-use Rattle.entries.specs.declared.Trail.{Trail}
+use Rattle.entries.specs.declared.WalkState.{WalkState}
 use Rattle.entries.specs.Tracing.{Followed}
 use Rattle.entries.specs.Stepping.{Stepped}
 use Rattle.regular.specs.Sizes.{Sized}
@@ -37,17 +37,17 @@ sized-never n g r s h f = none-lowest (sizeFaults n g r) (sizes-accepted n g r s
 
 -- what a turn answers
 module _ (n g r i : ℕ) (room : Bool) (c : List ℕ) where
-  pub turn-refused : (k : ℕ) (d : List ℕ) → (k ≡ 0 → ⊥) → k ≤ 3 → Lowest (sizeFaults n g r) k → (w : Trail) → Turned n g r i room c false k d w
+  pub turn-refused : (k : ℕ) (d : List ℕ) → (k ≡ 0 → ⊥) → k ≤ 3 → Lowest (sizeFaults n g r) k → (w : WalkState) → Turned n g r i room c false k d w
   turn-refused k d ne h l w = record { goes = λ e. absurd (clash (sym e)); stops = λ _. Stops.refused k (omega arith) h l }
 
   module _ (s : Sized n g r) (found : Bool) (e : List ℕ) (x : Stepped n (n - g) r (from i n c) found e) where
-    pub turn-ended : found ≡ false → (d : List ℕ) (w : Trail) → Turned n g r i room c false 0 d w
+    pub turn-ended : found ≡ false → (d : List ℕ) (w : WalkState) → Turned n g r i room c false 0 d w
     turn-ended q d w = record { goes = λ e. absurd (clash (sym e)); stops = λ _. Stops.ended s (x .next .none q) }
 
-    pub turn-full : found ≡ true → room ≡ false → (d : List ℕ) (w : Trail) → Turned n g r i room c false 9 d w
+    pub turn-full : found ≡ true → room ≡ false → (d : List ℕ) (w : WalkState) → Turned n g r i room c false 9 d w
     turn-full q f d w = record { goes = λ e. absurd (clash (sym e)); stops = λ _. Stops.full s f e (x .next .some q) }
 
-    pub turn-goes : found ≡ true → room ≡ true → (k : ℕ) (w : Trail) → Followed (n - 1) e w → Turned n g r i room c true k e w
+    pub turn-goes : found ≡ true → room ≡ true → (k : ℕ) (w : WalkState) → Followed (n - 1) e w → Turned n g r i room c true k e w
     turn-goes q f k w h = record { goes = λ _. record { room = f; sized = s; first = x .next .some q; followed = h }; stops = λ y. absurd (clash y) }
 
 -- the entries, with d as the i-th
@@ -79,14 +79,14 @@ module _ (n m r i : ℕ) (all : ℕ → List ℕ) (d : List ℕ) (b : Begun n m 
       (λ ne. subst (λ (v : ℕ). First n m r v (with-entry all i d j)) (sym (edges j (omega arith)))
       (subst (λ (x : List ℕ). First n m r (edge n all j) x) (sym (with-other all i d j ne)) (b j (omega arith))))
 
-pub progress-none : (n g r : ℕ) (all : ℕ → List ℕ) (c : List ℕ) (trail : Trail) → Followed 0 [] trail → Progress n g r 0 all c trail
+pub progress-none : (n g r : ℕ) (all : ℕ → List ℕ) (c : List ℕ) (trail : WalkState) → Followed 0 [] trail → Progress n g r 0 all c trail
 progress-none n g r all c trail h = record {
   begun = λ j h. absurd (omega arith);
   last = refl;
   going = record { sized = λ e. absurd (clash (sym e)); held = λ e. absurd (clash (sym e)); start = λ _. h };
 }
 
-pub progress-more : (n g r i : ℕ) (all : ℕ → List ℕ) (room : Bool) (c d : List ℕ) (v w : Trail) → Progress n g r i all c v → Goes n g r i room c d w → Progress n g r (i + 1) (with-entry all i d) d w
+pub progress-more : (n g r i : ℕ) (all : ℕ → List ℕ) (room : Bool) (c d : List ℕ) (v w : WalkState) → Progress n g r i all c v → Goes n g r i room c d w → Progress n g r (i + 1) (with-entry all i d) d w
 progress-more n g r i all room c d v w p t = record {
   begun = begun-more n (n - g) r i all d (p .begun) (subst (λ (v : ℕ). First n (n - g) r v d) (sym (p .last)) (t .first));
   last = ap (edge n (with-entry all i d)) (add-one i)
@@ -104,7 +104,7 @@ catalogue-equal n m r count a b e k = record {
 }
 
 -- where the loop stops: the answer, of which `room` and the entries in the list are the list's
-module _ (n g r : ℕ) (room : ℕ → Type 0) (down : (a b : ℕ) → b ≤ a → room a → room b) (i : ℕ) (all : ℕ → List ℕ) (c : List ℕ) (trail : Trail) (p : Progress n g r i all c trail) (here : room i)
+module _ (n g r : ℕ) (room : ℕ → Type 0) (down : (a b : ℕ) → b ≤ a → room a → room b) (i : ℕ) (all : ℕ → List ℕ) (c : List ℕ) (trail : WalkState) (p : Progress n g r i all c trail) (here : room i)
     (entry : ℕ → List ℕ) (same : (j : ℕ) → j < i → Equal n (all j) (entry j)) where
   stop-refused : (k : ℕ) → 0 < k → k ≤ 3 → Lowest (sizeFaults n g r) k → Catalogues n g r room entry k i
   stop-refused k a b l = record {

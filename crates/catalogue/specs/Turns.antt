@@ -10,7 +10,7 @@ use Rattle.regular.specs.Smallest.{Equal, Entry}
 use Rattle.smallest_laws.specs.Value.{value}
 use Rattle.catalogue_laws.specs.Steps.{Held, First, bound}
 use Rattle.catalogue_laws.specs.Walked.{Begun, edge}
-use Rattle.entries.specs.declared.Trail.{Trail}
+use Rattle.entries.specs.declared.WalkState.{WalkState}
 use Rattle.entries.specs.Tracing.{Followed}
 use Rattle.regular.specs.Sizes.{Sized}
 
@@ -19,13 +19,13 @@ abbrev pub from : ℕ → ℕ → List ℕ → ℕ
 from i n c = bound (ltb 0 i) n c
 
 -- before every turn but the first, c is an entry, to which the trail leads; before the first the trail is that of no column
-pub record Going (n g r i : ℕ) (c : List ℕ) (trail : Trail) : Type 0 where
+pub record Going (n g r i : ℕ) (c : List ℕ) (trail : WalkState) : Type 0 where
   pub sized : ltb 0 i ≡ true → Sized n g r
   pub held : ltb 0 i ≡ true → Held n (n - g) r c × Followed (n - 1) c trail
   pub start : ltb 0 i ≡ false → Followed 0 [] trail
 
 -- d is the next entry, and has room; the trail leads to it
-pub record Goes (n g r i : ℕ) (left : Bool) (c d : List ℕ) (trail : Trail) : Type 0 where
+pub record Goes (n g r i : ℕ) (left : Bool) (c d : List ℕ) (trail : WalkState) : Type 0 where
   pub room : left ≡ true
   pub sized : Sized n g r
   pub first : First n (n - g) r (from i n c) d
@@ -37,18 +37,18 @@ pub data Stops (n g r i : ℕ) (room : Bool) (c : List ℕ) : ℕ → Type 0 whe
   ended : Sized n g r → ((e : List ℕ) → Entry n (n - g) r e → from i n c ≤ value n e → ⊥) → Stops n g r i room c 0
   full : Sized n g r → room ≡ false → (d : List ℕ) → First n (n - g) r (from i n c) d → Stops n g r i room c 9
 
-pub record Turned (n g r i : ℕ) (room : Bool) (c : List ℕ) (found : Bool) (number : ℕ) (d : List ℕ) (trail : Trail) : Type 0 where
+pub record Turned (n g r i : ℕ) (room : Bool) (c : List ℕ) (found : Bool) (number : ℕ) (d : List ℕ) (trail : WalkState) : Type 0 where
   pub goes : found ≡ true → Goes n g r i room c d trail
   pub stops : found ≡ false → Stops n g r i room c number
 
 -- after i turns: the first i entries, c being the last of them
-pub record Progress (n g r i : ℕ) (all : ℕ → List ℕ) (c : List ℕ) (trail : Trail) : Type 0 where
+pub record Progress (n g r i : ℕ) (all : ℕ → List ℕ) (c : List ℕ) (trail : WalkState) : Type 0 where
   pub begun : Begun n (n - g) r i all
   pub last : edge n all i ≡ from i n c
   pub going : Going n g r i c trail
 
 -- the loop over the bytes after i turns: the list w, filled up to base, was v
-pub record Filling (n g r : ℕ) (v w : List ℕ) (i base : ℕ) (c : List ℕ) (trail : Trail) : Type 0 where
+pub record Filling (n g r : ℕ) (v w : List ℕ) (i base : ℕ) (c : List ℕ) (trail : WalkState) : Type 0 where
   pub all : ℕ → List ℕ
   pub progress : Progress n g r i all c trail
   pub place : base ≡ i * n

@@ -7,9 +7,9 @@ ghost use Rattle.catalogue.specs.Turns.{Going, Turned};
 ghost use Rattle.catalogue.specs.Records.{Stepped};
 ghost use Rattle.regular.specs.Catalogues.{ListsBytes, ListsDesigns};
 use admission::bounds_number;
-use entries::Trail;
+use entries::WalkState;
 use entries::next_entry;
-use entries::trailhead;
+use entries::walk_start;
 use lent::put_first;
 use regular::CatalogueAnswer;
 use regular::Design;
@@ -19,11 +19,19 @@ struct Turn {
     found: bool,
     number: u8,
     columns: [u8; 16],
-    trail: Trail,
+    trail: WalkState,
 }
 
 // The entry after c, the i-th, or the first if i is 0, where there is room for one more.
-fn advance(n: usize, g: usize, r: usize, i: usize, room: bool, c: [u8; 16], trail: Trail) -> Turn
+fn advance(
+    n: usize,
+    g: usize,
+    r: usize,
+    i: usize,
+    room: bool,
+    c: [u8; 16],
+    trail: WalkState,
+) -> Turn
     requires { ⌜ Going n g r i c trail ⌝ }
     ensures { λ res. ⌜ Turned n g r i room c (res .found) (res .number) (res .columns) (res .trail) ⌝ }
 {
@@ -69,7 +77,7 @@ pub fn list_catalogue(n: usize, g: usize, r: usize, out: &mut [u8]) -> Catalogue
     ensures { λ res. ⌜ ListsBytes n g r (now (out .entry)) (now (out .exit)) (res .number) (res .count) ⌝ }
 {
     let mut c = [0u8; 16];
-    let mut trail = trailhead();
+    let mut trail = walk_start();
     let mut count: usize = 0;
     let mut base: usize = 0;
     loop {
@@ -93,7 +101,7 @@ pub fn list_catalogue(n: usize, g: usize, r: usize, out: &mut [u8]) -> Catalogue
 // A place in the catalogue: the entry's record, and the trail to it.
 struct Stop {
     design: Design,
-    trail: Trail,
+    trail: WalkState,
 }
 
 // What a turn of the loop over records finds: the next place, or the answer.
@@ -107,7 +115,7 @@ struct NextStop {
 fn begin() -> Stop
     ensures { λ res. ⌜ (res .design ≡ blank) × Followed 0 [] (res .trail) ⌝ }
 {
-    let trail = trailhead();
+    let trail = walk_start();
     Stop {
         design: Design {
             factors: 0,

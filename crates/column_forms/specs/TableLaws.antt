@@ -94,7 +94,7 @@ seen-none c t e =
       none = λ p. omega (arith, getD-set-same t 0 1 0 (omega arith));
       passed = λ g h. absurd (omega arith);
       only = λ v p. by-cases (ℕ-discrete v 0) (λ q. inl q) (λ ne. absurd (p (getD-set-other t 0 v 1 0 ne ∙ z v)));
-      plain = record { some = λ f h. absurd (omega arith); once = λ f g h l. absurd (omega arith) };
+      distinct = record { some = λ f h. absurd (omega arith); once = λ f g h l. absurd (omega arith) };
     }
 
 module _ (c : List ℕ) (f : ℕ) (t : List ℕ) (x : ℕ) (is : x ≡ getD c f 0) (s : Seen c f t) where
@@ -113,13 +113,13 @@ module _ (c : List ℕ) (f : ℕ) (t : List ℕ) (x : ℕ) (is : x ≡ getD c f 
         only = λ v p. by-cases (ℕ-discrete v x)
             (λ q. inr (f, (omega arith, sym is ∙ sym q)))
             (λ ne. ⊎-elim (λ q. inl q) (λ r. inr (r .0, (omega (arith, r .1 .0), r .1 .1))) (s .only v (λ q. p (getD-set-other t x v 1 0 ne ∙ q))));
-        plain = record {
+        distinct = record {
           some = λ g h. by-cases (ℕ-discrete g f)
               (λ q. by-cases (ℕ-discrete x 0) (λ z. absurd (s .none (ap (λ (y : ℕ). getD t y 0) (sym z) ∙ e))) (λ nz. rw (q, ← is) (omega arith)))
-              (λ ne. s .plain .some g (omega arith));
+              (λ ne. s .distinct .some g (omega arith));
           once = λ g i h li p. by-cases (ℕ-discrete i f)
               (λ q. s .passed g (omega arith) (ap (λ (y : ℕ). getD t y 0) (p ∙ ap (λ (y : ℕ). getD c y 0) q ∙ sym is) ∙ e))
-              (λ ne. s .plain .once g i h (omega arith) p);
+              (λ ne. s .distinct .once g i h (omega arith) p);
         };
       }
 

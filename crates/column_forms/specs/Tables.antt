@@ -7,7 +7,7 @@ use Prim.Native.Nat.{ℕ, _+_, _<_}
 use lib.Bits.{bitXor}
 use lib.ListN.{length, getD}
 use Rattle.gf2.specs.Doubling.{Doubling}
-use Rattle.standard.specs.Form.{Plain}
+use Rattle.standard.specs.Form.{DistinctNonzero}
 
 -- sums holds F at each place below s, and places is its inverse: one more than the place of a number that is there, 0 for any other number
 pub record Held (F : ℕ → ℕ) (s : ℕ) (sums places : List ℕ) : Type 0 where
@@ -35,4 +35,4 @@ pub record Seen (c : List ℕ) (f : ℕ) (seen : List ℕ) : Type 0 where
   pub none : getD seen 0 0 ≡ 0 → ⊥
   pub passed : (g : ℕ) → g < f → getD seen (getD c g 0) 0 ≡ 0 → ⊥
   pub only : (v : ℕ) → (getD seen v 0 ≡ 0 → ⊥) → (v ≡ 0) ⊎ ((g : ℕ) × ((g < f) × (getD c g 0 ≡ v)))
-  pub plain : Plain f c
+  pub distinct : DistinctNonzero f c

@@ -5,7 +5,7 @@ ghost use Prim.Native.Nat.{ℕ, _^_, _<_, _≤_};
 ghost use lib.ListN.{length, getD};
 ghost use Rattle.gf2.specs.Doubling.{Doubling};
 ghost use Rattle.regular.specs.Columns.{planOf, Below, Spans, RunTable, runOf};
-ghost use Rattle.standard.specs.Form.{Plain, Repeat};
+ghost use Rattle.standard.specs.Form.{DistinctNonzero, Repeat};
 ghost use Rattle.standard.specs.Finding.{Found};
 ghost use Rattle.column_forms.specs.Tables.{Grown};
 use regular::Standardized;
@@ -20,7 +20,7 @@ pub fn double(c: u8, half: usize, sums: &mut [u8; 128], places: &mut [u8; 128])
     while k < half {
         let v = sums[k] ^ c;
         sums[half + k] = v;
-        let z = bits::wide_byte(v);
+        let z = bits::as_index(v);
         places[z] = (half + k + 1) as u8;
         k += 1;
     }
@@ -39,7 +39,7 @@ pub fn standardize(n: usize, m: usize, cols: [u8; 16]) -> Standardized
     let mut f: usize = 0;
     while f < n {
         let c = cols[f];
-        let z = bits::wide_byte(c);
+        let z = bits::as_index(c);
         let p = places[z];
         if p != 0 {
             columns[f] = p - 1;
@@ -61,15 +61,15 @@ pub fn standardize(n: usize, m: usize, cols: [u8; 16]) -> Standardized
 }
 
 // Whether no column is 0 and none stands twice.
-pub fn plain(n: usize, cols: [u8; 16]) -> bool
+pub fn distinct_nonzero(n: usize, cols: [u8; 16]) -> bool
     requires { ⌜ (n ≤ 16) × Below n 7 cols ⌝ }
-    ensures { λ r. ⌜ (r ≡ true → Plain n cols) × (r ≡ false → Repeat n cols) ⌝ }
+    ensures { λ r. ⌜ (r ≡ true → DistinctNonzero n cols) × (r ≡ false → Repeat n cols) ⌝ }
 {
     let mut seen = [0u8; 128];
     seen[0] = 1;
     let mut f: usize = 0;
     while f < n {
-        let z = bits::wide_byte(cols[f]);
+        let z = bits::as_index(cols[f]);
         if seen[z] != 0 {
             return false;
         }

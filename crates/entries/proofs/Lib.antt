@@ -1,3 +1,3 @@
 mod Sums
-mod Trails
+mod WalkStates
 mod Moves

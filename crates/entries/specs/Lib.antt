@@ -1,4 +1,4 @@
 pub mod Sums
 pub mod Tracing
-pub mod Trailhead
+pub mod WalkStart
 pub mod Stepping

@@ -50,7 +50,7 @@ pub fn generators(n: usize, columns: [u8; 16]) -> [u16; 16]
     let mut m: usize = 0;
     let mut f: usize = 0;
     while f < n {
-        let c = bits::wide_byte(columns[f]);
+        let c = bits::as_index(columns[f]);
         if c == unit {
             basics[m] = letter(f);
             unit += unit;

@@ -20,16 +20,16 @@ use Rattle.isomorphism_laws.specs.Match as matched
 use Rattle.isomorphism_laws.specs.Renamings.{kept}
 use Rattle.isomorphism_laws.specs.SamePlan.{carries-refl}
 use Rattle.smallest_laws.specs.Pulled.{pulled}
-use Rattle.smallest_laws.specs.UnitForms.{rising-plain}
+use Rattle.smallest_laws.specs.UnitForms.{rising-distinct}
 use Rattle.search.specs.Search.{On, Picks, Free, Alike, Placed, Tables, Presence}
 use Rattle.search.specs.Steps.{Block, Blocks, HasUnits, Low, Left, At, Own, Scanning, Going}
 use Rattle.search.specs.Masks.{off}
-use Rattle.beating_laws.specs.Above.{Above}
-use Rattle.beating_laws.specs.Branches.{Counts}
-use Rattle.beating_laws.specs.Carried.{AllCarried, carried-none}
-use Rattle.beating_laws.specs.Mirrors.{Clear, clear-all}
-use Rattle.canonical.specs.Reaching.{Reaches, reaches-blank}
-use Rattle.canonical.specs.Forming.{Sourced, Form, tested-length}
+use Rattle.smallest_test_laws.specs.Above.{Above}
+use Rattle.smallest_test_laws.specs.Branches.{Identity}
+use Rattle.smallest_test_laws.specs.Later.{AllLater, later-none}
+use Rattle.smallest_test_laws.specs.Mirrors.{Clear, clear-all}
+use Rattle.smallest_columns.specs.Reaching.{Reaches, reaches-blank}
+use Rattle.smallest_columns.specs.Forming.{Sourced, Form, tested-length}
 use Rattle.comparison.specs.Matching.{Imaged}
 use Rattle.basics.specs.Order.{Most}
 use Rattle.basics.specs.OrderSteps.{most-none}
@@ -101,14 +101,14 @@ scanning-1 = record {
 pub units-1 : Units 1 1 column
 units-1 = first (λ i. (f : ℕ) × ((f < 1) × (getD column f 0 ≡ 2 ^ i))) (0, (omega arith, refl))
 
-pub counts-1 : Counts 0 marks
-counts-1 = record { long = refl; at = first (λ k. getD marks k 0 ≡ k) refl }
+pub identity-1 : Identity 0 marks
+identity-1 = record { long = refl; at = first (λ k. getD marks k 0 ≡ k) refl }
 
 pub above-1 : Above 1 column 0 1
 above-1 = record { to = member (λ i. (i < 1) × (1 ≤ getD column i 0)) (omega arith, omega arith); from = λ i h l. first (λ j. On j 1) refl i h }
 
-pub carried-1 : AllCarried 1 1 column 0 (replicate 128 0)
-carried-1 = carried-none 1 1 column 0 (replicate 128 0) blank-128
+pub later-1 : AllLater 1 1 column 0 (replicate 128 0)
+later-1 = later-none 1 1 column 0 (replicate 128 0) blank-128
 
 -- of the columns 1 and 2, exchanging them carries 1 up to 2, which is marked
 abbrev pub pair : List ℕ
@@ -140,11 +140,11 @@ exchanged = record { count = refl; columns = columns; free = free; alike = alike
     alike (suc (suc (suc zero))) p l = record { into = λ c. absurd (not-three c); onto = λ c. absurd (not-three c) }
     alike (suc (suc (suc (suc k)))) p l = absurd (omega arith)
 
-pub carried-2 : AllCarried 2 2 pair 0 (0 ∷ 0 ∷ 1 ∷ replicate 125 0)
+pub later-2 : AllLater 2 2 pair 0 (0 ∷ 0 ∷ 1 ∷ replicate 125 0)
 unfolding vec
-carried-2 zero l ne = absurd (ne refl)
-carried-2 (suc zero) l ne = absurd (ne refl)
-carried-2 (suc (suc zero)) l ne = record {
+later-2 zero l ne = absurd (ne refl)
+later-2 (suc zero) l ne = absurd (ne refl)
+later-2 (suc (suc zero)) l ne = record {
   by = pair;
   match = exchanged;
   keeps = first (λ k. vec pair k ≡ k) refl;
@@ -153,15 +153,15 @@ carried-2 (suc (suc zero)) l ne = record {
   below = omega arith;
   to = refl;
 }
-carried-2 (suc (suc (suc y))) l ne = absurd (ne (zeros 125 y))
+later-2 (suc (suc (suc y))) l ne = absurd (ne (zeros 125 y))
 
 pub clear-1 : Clear 1 1 column 1
 clear-1 = clear-all 1 1 column
 
 -- .. all that a trial at the unit requires at once
-pub trial-1 : (Rising 1 1 column × Units 1 1 column) × (Presence column 1 marks × Tables column marks sums 1 × Counts 0 marks × Blocks marks 1 (1 ∷ replicate 7 0) × Above 1 column 0 1)
-    × (AllCarried 1 1 column 0 (replicate 128 0) × Clear 1 1 column 1)
-trial-1 = ((rising-1, units-1), (presence-1, tables-1, counts-1, blocks-1, above-1), (carried-1, clear-1))
+pub trial-1 : (Rising 1 1 column × Units 1 1 column) × (Presence column 1 marks × Tables column marks sums 1 × Identity 0 marks × Blocks marks 1 (1 ∷ replicate 7 0) × Above 1 column 0 1)
+    × (AllLater 1 1 column 0 (replicate 128 0) × Clear 1 1 column 1)
+trial-1 = ((rising-1, units-1), (presence-1, tables-1, identity-1, blocks-1, above-1), (later-1, clear-1))
 
 -- the smallest form: nothing placed, then the column placed, and a form to start from
 pub reaches-0 : Reaches 1 1 column 1 (replicate 128 0) []
@@ -180,7 +180,7 @@ reaches-1 = record {
 }
 
 pub pulled-1 : length (pulled 1 1 (λ k. getD marks k 0) column) ≡ 1
-pulled-1 = tested-length 1 1 column marks (1 ∷ []) (rising-plain 1 1 column rising-1) (rising-1 .below) reaches-1
+pulled-1 = tested-length 1 1 column marks (1 ∷ []) (rising-distinct 1 1 column rising-1) (rising-1 .below) reaches-1
 
 pub sourced-1 : Sourced 1 column column marks
 sourced-1 = first (λ g. (j : ℕ) × ((j < 1) × (getD marks (getD column j 0) 0 ≡ getD column g 0))) (0, (omega arith, refl))

@@ -4,7 +4,7 @@ use mathlib.Core.Path.{refl}
 use mathlib.Core.List.{[], _∷_}
 use lib.ListN.{getD}
 use Rattle.words.specs.Standards.{form-cols}
-use Rattle.smallest_laws.specs.UnitForms.{rising-plain}
+use Rattle.smallest_laws.specs.UnitForms.{rising-distinct}
 use Rattle.admission.specs.Admission.{Ready}
 use Rattle.plan_lists.specs.Accepted.{AcceptedPlans, AcceptedRecords, plans-accepted, records-accepted}
 use Rattle.witness_check.specs.Names.{Named}
@@ -24,7 +24,7 @@ unfolding below
 ready-abc = record {
   size = size-4;
   form = form-cols 4 3 abc (recordABC .columns) (standard-form-abc .form) (agree-at (λ f. getD abc f 0) (λ f. getD (recordABC .columns) f 0) 4 refl);
-  plain = rising-plain 4 3 (recordABC .columns) (holds-abc .columns .smallest .columns);
+  distinct = rising-distinct 4 3 (recordABC .columns) (holds-abc .columns .smallest .columns);
 }
 
 -- plans that nothing is wrong with: the book's loops

@@ -33,8 +33,8 @@ module _ {n g : ℕ} {a : List ℕ} (ready : Ready n g a) where
 
   column-once : (i j : ℕ) → i < n → j < n → column i ≡ column j → i ≡ j
   column-once i j hi hj e =
-      by-cases (decLt i j) (λ l. absurd (ready .plain .once i j l hj e))
-      (λ k. by-cases (decLt j i) (λ l. absurd (ready .plain .once j i l hi (sym e))) (λ l. omega arith))
+      by-cases (decLt i j) (λ l. absurd (ready .distinct .once i j l hj e))
+      (λ k. by-cases (decLt j i) (λ l. absurd (ready .distinct .once j i l hi (sym e))) (λ l. omega arith))
 
   column-lt : (f : ℕ) → f < n → column f < 2 ^ (n - g)
   column-lt = standard-below n (n - g) a (ready .form)
@@ -42,7 +42,7 @@ module _ {n g : ℕ} {a : List ℕ} (ready : Ready n g a) where
   -- 0 and n different columns from 1 to 2^m - 1
   columns-fit : suc n ≤ 2 ^ (n - g)
   columns-fit =
-      let apart : In 0 (listTo column n) → ⊥ = λ m. let r = of-to column n 0 m in omega (arith, r .1 .1, ready .plain .some (r .0) (r .1 .0)) in
+      let apart : In 0 (listTo column n) → ⊥ = λ m. let r = of-to column n 0 m in omega (arith, r .1 .1, ready .distinct .some (r .0) (r .1 .0)) in
       let f = fewer (0 ∷ listTo column n) (upto (2 ^ (n - g))) (apart, to-different column n column-once)
       (λ z m. upto-in (2 ^ (n - g)) z (⊎-elim (λ e. omega (arith, pow-pos (n - g))) (λ i. let r = of-to column n z i in omega (arith, r .1 .1, column-lt (r .0) (r .1 .0))) m)) in
       omega (arith, f, to-length column n, upto-length (2 ^ (n - g)))

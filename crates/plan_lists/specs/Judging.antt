@@ -21,7 +21,7 @@ use Rattle.regular.specs.RefusalLaws.{lowest-none, lowest-at, lowest-same, lowe
 use Rattle.regular.specs.PlanLists.{planAt, HasPlan, BytesFault, ofSome, recordsFaults, plansFaults, wantedRecordsFaults, wantedPlansFaults}
 use Rattle.regular.specs.declared.Design.{Design}
 use Rattle.regular.specs.declared.Admitted.{Admitted}
-use Rattle.words.specs.Short.{plain-long}
+use Rattle.words.specs.Short.{distinct-long}
 use Rattle.words.specs.Switches.{agree-sym, short-agree, short-switched, switched-twice}
 use Rattle.counts.specs.Models.{firstLength}
 use Rattle.counts.specs.Resolutions.{resolution-of-pattern}
@@ -49,7 +49,7 @@ pub wanted-low : (n r : ℕ) (s : Runs) → r ≤ 3 → NoShort n 3 s → Lowest
 wanted-low n r s low long = wanted-none n r s (λ w is. omega (arith, long w is))
 
 pub ready-long : {n g : ℕ} {a : List ℕ} → Ready n g a → NoShort n 3 (planOf n (n - g) a)
-ready-long {n} {g} {a} r = plain-long n (n - g) (planOf n (n - g) a) a (record { form = r .form; plan = record { into = λ x p. p; onto = λ x p. p } }) (r .plain)
+ready-long {n} {g} {a} r = distinct-long n (n - g) (planOf n (n - g) a) a (record { form = r .form; plan = record { into = λ x p. p; onto = λ x p. p } }) (r .distinct)
 
 -- what the resolution q says, found as the pattern's first length and widened
 pub resolved : {n : ℕ} {s : Runs} {p : List ℕ} {q w : ℕ} → Pattern n s p → q ≡ firstLength n p → w ≡ q → Resolution n s w

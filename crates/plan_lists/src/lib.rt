@@ -28,7 +28,7 @@ fn wanted(n: usize, g: usize, r: usize, plan: Admitted) -> u8
     }
     let columns = plan.columns;
     let counts = measures::pattern(n, g, columns);
-    let resolution = bits::wide_byte(patterns::resolution_of(n, counts));
+    let resolution = bits::as_index(patterns::resolution_of(n, counts));
     if resolution == 0 {
         return 0;
     }

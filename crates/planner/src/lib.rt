@@ -17,8 +17,7 @@ use regular::BookAnswer;
 use regular::CatalogueAnswer;
 use regular::Checked;
 use regular::Compared;
-use regular::MaskAnswer;
-use regular::PlaceAnswer;
+use regular::FormAnswer;
 
 // Words to columns.
 #[no_mangle]
@@ -257,11 +256,10 @@ pub extern "C" fn plan_smallest_of_columns(
     list: &[u8],
     smallest: &mut [u8],
     witness: &mut [u8],
-) -> PlaceAnswer
-    ensures { λ r. ⌜ ReducesInto n g (ofColumns n g (now (columns .entry))) (now (list .entry)) (now (smallest .entry)) (now (smallest .exit)) (now (witness .entry)) (now (witness .exit))
-        (r .number) 0 (r .place) ⌝ }
+) -> FormAnswer
+    ensures { λ r. ⌜ ReducesInto n g (ofColumns n g (now (columns .entry))) (now (list .entry)) (now (smallest .entry)) (now (smallest .exit)) (now (witness .entry)) (now (witness .exit)) r ⌝ }
 {
-    smallest_form::smallest_of_columns(n, g, columns, list, smallest, witness)
+    smallest_calls::smallest_of_columns(n, g, columns, list, smallest, witness)
 }
 
 // The smallest form of the plan of a run table, the names and the mask of a witness to it, and its first place in a list of plans.
@@ -273,11 +271,10 @@ pub extern "C" fn plan_smallest_of_runs(
     list: &[u8],
     smallest: &mut [u8],
     witness: &mut [u8],
-) -> MaskAnswer
-    ensures { λ r. ⌜ ReducesInto n g (ofRuns n g (now (runs .entry))) (now (list .entry)) (now (smallest .entry)) (now (smallest .exit)) (now (witness .entry)) (now (witness .exit))
-        (r .number) (r .mask) (r .place) ⌝ }
+) -> FormAnswer
+    ensures { λ r. ⌜ ReducesInto n g (ofRuns n g (now (runs .entry))) (now (list .entry)) (now (smallest .entry)) (now (smallest .exit)) (now (witness .entry)) (now (witness .exit)) r ⌝ }
 {
-    smallest_form::list_smallest_of_runs(n, g, runs, list, smallest, witness)
+    smallest_calls::list_smallest_of_runs(n, g, runs, list, smallest, witness)
 }
 
 // The smallest forms of several plans one after another, and the names of a witness to each.
@@ -291,7 +288,7 @@ pub extern "C" fn plan_smallest_of_plans(
 ) -> u8
     ensures { λ r. ⌜ ReducesEach n g (now (plans .entry)) (now (forms .entry)) (now (forms .exit)) (now (witnesses .entry)) (now (witnesses .exit)) r ⌝ }
 {
-    smallest_form::smallest_of_plans(n, g, plans, forms, witnesses)
+    smallest_calls::smallest_of_plans(n, g, plans, forms, witnesses)
 }
 
 // The catalogue, n columns an entry, one after another.

@@ -5,8 +5,8 @@ ghost use Prim.Native.Nat.{_+_, _-_, _*_, _≤_};
 ghost use lib.ListN.{length};
 ghost use Rattle.printed_lines.specs.Text.{Adds, decimal, next, columnsText, countsText, headerLine, refused, notASize, start, entry, EntryLine, headerMost, entryMost, entryRoom};
 ghost use Rattle.printed_lines.specs.Listed.{Listable};
+use bits::as_index;
 use bits::wide;
-use bits::wide_byte;
 use regular::Design;
 
 // A text as it is.
@@ -52,7 +52,7 @@ fn add_columns(n: usize, columns: [u8; 16], at: usize, out: &mut [u8]) -> usize
     let mut f: usize = 0;
     let mut end = at;
     while f < n {
-        let column = wide_byte(columns[f]) as u64;
+        let column = as_index(columns[f]) as u64;
         end = add_next(column, end, out);
         f += 1;
     }

@@ -243,7 +243,7 @@ fn fill_names(call: usize, n: usize, g: usize, list: &[u16], names: &mut [u8]) {
     if 8 < other {
         return;
     }
-    print_smallest(reduction::form_of_design(n, g, d, other, names));
+    print_smallest(smallest_of_plan::form_of_design(n, g, d, other, names));
 }
 
 // The same with k places lent; what it answers, and the whole list after it.

@@ -49,16 +49,10 @@ pub struct SmallestAnswer {
     pub design: Design,
 }
 
-// A refusal's number, 0 if accepted, and the first place of a smallest form in a lent list, from 1, 0 if absent or refused.
+// What is told of a smallest form whose columns go into a lent list: a refusal's number, 0 if accepted, the mask of the witness to it, and its first
+// place in a list of plans, from 1, 0 if absent; 0 if refused.
 #[repr(C)]
-pub struct PlaceAnswer {
-    pub number: u8,
-    pub place: usize,
-}
-
-// .. and the mask of the witness to it, 0 if refused.
-#[repr(C)]
-pub struct MaskAnswer {
+pub struct FormAnswer {
     pub number: u8,
     pub mask: u16,
     pub place: usize,

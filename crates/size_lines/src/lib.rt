@@ -3,7 +3,7 @@ ghost use mathlib.Core.Path.{_≡_};
 ghost use mathlib.Core.Bool.{false};
 ghost use Prim.Native.Nat.{_≤_};
 ghost use Rattle.size_lines.specs.Lines.{DigitIs, SpaceIs, Part, Parsed};
-use bits::wide_byte;
+use bits::as_index;
 
 // A number of one or two digits, and the place after it.
 struct Numeral {
@@ -26,7 +26,7 @@ fn digit(line: &[u8], p: usize) -> usize
     if line.len() <= p {
         return 10;
     }
-    let x = wide_byte(line[p]);
+    let x = as_index(line[p]);
     if x < 48 {
         return 10;
     }

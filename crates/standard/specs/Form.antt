@@ -29,7 +29,7 @@ abbrev pub Apart : ℕ → ℕ → List ℕ → Type 0
 Apart n m c = (j : ℕ) → j < 2 ^ m → runOf c n j ≡ 0 → j ≡ 0
 
 -- no column is 0 and none stands twice: the plan has no word of fewer than three letters
-pub record Plain (n : ℕ) (c : List ℕ) : Type 0 where
+pub record DistinctNonzero (n : ℕ) (c : List ℕ) : Type 0 where
   pub some : (f : ℕ) → f < n → 0 < getD c f 0
   pub once : (f g : ℕ) → f < g → g < n → getD c f 0 ≡ getD c g 0 → ⊥
 

@@ -37,7 +37,7 @@ use Rattle.catalogue_laws.specs.Walk.{first}
 use Rattle.catalogue_laws.specs.Walked.{Begun, Ended}
 use Rattle.whiteboard.specs.GivenWords.{given-generators}
 use Rattle.whiteboard.specs.ListTests.{among, all, distinct, carried-witness}
-use Rattle.whiteboard.specs.PlanInstances.{runsABC, recordABC, recordABCD, holds-abc, holds-abcd, past-front, table-abc, distances-abc, bcd, below-abc, plain-abc, units-abc, different-abc-abcd, standard-form-abc, independent-abc}
+use Rattle.whiteboard.specs.PlanInstances.{runsABC, recordABC, recordABCD, holds-abc, holds-abcd, past-front, table-abc, distances-abc, bcd, below-abc, distinct-abc, units-abc, different-abc-abcd, standard-form-abc, independent-abc}
 use Rattle.whiteboard.specs.Samples.{abc, abcd, catalogue-4}
 use Rattle.whiteboard.specs.Tests.{below, below-at}
 
@@ -85,7 +85,7 @@ match-bcd = carries-match 4 3 abc bcd below-abc below-bcd (1 ∷ 2 ∷ 3 ∷ 0 �
 
 pub no-match : (t : List ℕ) → Match 3 4 abc abcd t → ⊥
 no-match t h =
-    let r = match-carries 4 3 abc abcd below-abc (catalogue-4 .sound 1 (omega arith) .smallest .columns .below) t plain-abc h in
+    let r = match-carries 4 3 abc abcd below-abc (catalogue-4 .sound 1 (omega arith) .smallest .columns .below) t distinct-abc h in
     different-abc-abcd (record { names = r .0; mask = 0; carries = r .1 })
 
 -- the walk: an entry in sixteen places, the first place, the first entry, the next one and none after it

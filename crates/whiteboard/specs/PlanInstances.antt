@@ -24,7 +24,7 @@ use Rattle.regular.specs.Refusals.{Short}
 use Rattle.regular.specs.Same.{moved, Renaming, Same}
 use Rattle.regular.specs.Smallest.{Rising, Equal, Before, Smallest, Entry, ReachesOne, Demand3}
 use Rattle.regular.specs.declared.Design.{Design}
-use Rattle.standard.specs.Form.{unitsBefore, StandardFor, Plain, Repeat}
+use Rattle.standard.specs.Form.{unitsBefore, StandardFor, DistinctNonzero, Repeat}
 use Rattle.standard.specs.Plans.{word-cancels, cancels-word}
 use Rattle.standard.specs.Runs.{total-lt}
 use Rattle.standard.specs.Units.{spread, unitsAt}
@@ -37,7 +37,7 @@ use Rattle.isomorphism_laws.specs.KeptWords.{same-pattern, same-no-short}
 use Rattle.isomorphism_laws.specs.Link.{Units}
 use Rattle.smallest_laws.specs.Beating.{smallest-units}
 use Rattle.smallest_laws.specs.Growth.{entry-equal}
-use Rattle.smallest_laws.specs.UnitForms.{rising-plain}
+use Rattle.smallest_laws.specs.UnitForms.{rising-distinct}
 use Rattle.catalogue_laws.specs.Demand.{Whole, whole}
 use Rattle.whiteboard.specs.ListTests.{among, all, distinct, not-among, carried-witness, tabled-table}
 use Rattle.whiteboard.specs.Samples.{abc, abcd, catalogue-4, words-abc, words-abcd, runs-abc, full-3, printed-samples}
@@ -197,8 +197,8 @@ standard-form-abc = record { form = record { next = next-abc; units = refl }; pl
     next-abc (suc (suc (suc zero))) h = lit≤ tt
     next-abc (suc (suc (suc (suc f)))) h = absurd (omega arith)
 
-pub plain-abc : Plain 4 abc
-plain-abc = rising-plain 4 3 abc (catalogue-4 .sound 0 (omega arith) .smallest .columns)
+pub distinct-abc : DistinctNonzero 4 abc
+distinct-abc = rising-distinct 4 3 abc (catalogue-4 .sound 0 (omega arith) .smallest .columns)
 
 pub repeat-ab : Repeat 4 (1 ∷ 1 ∷ 2 ∷ 4 ∷ [])
 repeat-ab = Repeat.twice 0 1 (omega arith) (omega arith) refl

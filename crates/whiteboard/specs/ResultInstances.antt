@@ -174,7 +174,7 @@ pub columns-place : ColumnsPlace 4 plans filled 2
 columns-place = FirstPlace.found 1 (omega arith) equal-filled (λ j l e. let z : j ≡ 0 = omega arith in
     omega (arith, subst (λ (i : ℕ). Equal 4 (planAt 4 plans i) filled) z e 2 (omega arith)))
 
-pub reduces-into : ReducesInto 4 1 (ofColumns 4 1 abc) plans five filled five own 0 0 2
+pub reduces-into : ReducesInto 4 1 (ofColumns 4 1 abc) plans five filled five own (record { number = 0; mask = 0; place = 2 })
 unfolding moved
 reduces-into = record {
   lowest = lowest-then (either (columnsFaults 4 1 abc) (either (plansFaults 4 1 plans) (LentFault 4 five))) (LentFault 4 five) 0
@@ -194,7 +194,7 @@ reduces-into = record {
   size = (refl, refl);
 }
 
-pub reduces-into-refused : ReducesInto 4 1 (ofColumns 4 1 abc) plans (9 ∷ 9 ∷ []) (9 ∷ 9 ∷ []) five five 8 0 0
+pub reduces-into-refused : ReducesInto 4 1 (ofColumns 4 1 abc) plans (9 ∷ 9 ∷ []) (9 ∷ 9 ∷ []) five five (record { number = 8; mask = 0; place = 0 })
 reduces-into-refused = record {
   lowest = lowest-first (either (columnsFaults 4 1 abc) (either (plansFaults 4 1 plans) (LentFault 4 (9 ∷ 9 ∷ [])))) (LentFault 4 five) 8 (omega arith)
       (lowest-then (columnsFaults 4 1 abc) (either (plansFaults 4 1 plans) (LentFault 4 (9 ∷ 9 ∷ []))) 8 accepted-columns

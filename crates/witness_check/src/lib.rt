@@ -7,10 +7,10 @@ ghost use Rattle.witness_check.specs.Names.{Named};
 ghost use Rattle.witness_check.specs.Partners.{Partnered, NoPartner};
 use admission::array_of;
 use admission::lower_of;
+use bits::as_index;
 use bits::level;
 use bits::power;
 use bits::wide;
-use bits::wide_byte;
 use regular::Checked;
 use renaming::renamed;
 
@@ -25,7 +25,7 @@ fn each_once(n: usize, names: &[u8]) -> bool
     let mut seen: u16 = 0;
     let mut f = 0;
     while f < n {
-        let name = wide_byte(names[f]);
+        let name = as_index(names[f]);
         if n <= name {
             return false;
         }

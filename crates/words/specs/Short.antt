@@ -15,7 +15,7 @@ use Rattle.regular.specs.Columns.{Below, planOf}
 use Rattle.regular.specs.Refusals.{Short}
 use Rattle.regular.specs.Runs.{Runs, Agree}
 use Rattle.regular.specs.Words.{NoShort, total}
-use Rattle.standard.specs.Form.{StandardFor, Plain, Repeat}
+use Rattle.standard.specs.Form.{StandardFor, DistinctNonzero, Repeat}
 use Rattle.standard.specs.Plans.{word-cancels, cancels-word}
 use Rattle.standard.specs.Total.{total-unit, total-xor}
 use Rattle.standard.specs.Units.{standard-below}
@@ -27,12 +27,12 @@ total-pair c n f g hf hg = total-xor c n (2 ^ f) (2 ^ g) ∙ ap₂ bitXor (total
 
 module _ (n m : ℕ) (c : List ℕ) where
   -- no set of one or two factors cancels in plain columns
-  one-stays : Plain n c → (w : ℕ) → w < 2 ^ n → ones w ≡ 1 → total c n w ≡ 0 → ⊥
+  one-stays : DistinctNonzero n c → (w : ℕ) → w < 2 ^ n → ones w ≡ 1 → total c n w ≡ 0 → ⊥
   one-stays p w l e z =
       let r = ones-one n w l e in
       omega (arith, p .some (r .0) (r .1 .0), sym (total-unit c (r .0) n (r .1 .0)) ∙ ap (total c n) (sym (r .1 .1)) ∙ z)
 
-  two-stay : Plain n c → (w : ℕ) → w < 2 ^ n → ones w ≡ 2 → total c n w ≡ 0 → ⊥
+  two-stay : DistinctNonzero n c → (w : ℕ) → w < 2 ^ n → ones w ≡ 2 → total c n w ≡ 0 → ⊥
   two-stay p w l e z =
       let r = ones-two n w l e in
       let f = r .first in
@@ -43,8 +43,8 @@ module _ (n m : ℕ) (c : List ℕ) where
       (λ h. p .once f g h (r .second-low) same)
       (λ h. by-cases (ℕ-discrete f g) (r .apart) (λ ne. p .once g f (omega arith) (r .first-low) (sym same)))
 
-  plain-words : Below n m c → Plain n c → NoShort n 3 (planOf n m c)
-  plain-words b p w h =
+  distinct-words : Below n m c → DistinctNonzero n c → NoShort n 3 (planOf n m c)
+  distinct-words b p w h =
       let z = word-cancels n m c b w h in
       let l = h .within in
       by-cases (decLe 3 (ones w)) (λ k. k)
@@ -72,15 +72,15 @@ module _ (n m : ℕ) (c : List ℕ) where
 
 -- columns with the runs of s
 module _ (n m : ℕ) (s : Runs) (c : List ℕ) (a : Agree s (planOf n m c)) where
-  plain-no-short : Below n m c → Plain n c → NoShort n 3 s
-  plain-no-short b p w h = plain-words n m c b p w (word-agree n s (planOf n m c) a w h)
+  distinct-no-short : Below n m c → DistinctNonzero n c → NoShort n 3 s
+  distinct-no-short b p w h = distinct-words n m c b p w (word-agree n s (planOf n m c) a w h)
 
   pub repeat-gives-short : Repeat n c → Short n 3 s
   repeat-gives-short r = short-agree n (planOf n m c) s (agree-sym s (planOf n m c) a) 3 (repeat-words n m c r)
 
 -- standard columns
-pub plain-long : (n m : ℕ) (s : Runs) (a : List ℕ) → StandardFor n m s a → Plain n a → NoShort n 3 s
-plain-long n m s a st p = plain-no-short n m s a (st .plan) (standard-below n m a (st .form)) p
+pub distinct-long : (n m : ℕ) (s : Runs) (a : List ℕ) → StandardFor n m s a → DistinctNonzero n a → NoShort n 3 s
+distinct-long n m s a st p = distinct-no-short n m s a (st .plan) (standard-below n m a (st .form)) p
 
 pub repeat-short : (n m : ℕ) (s : Runs) (a : List ℕ) → StandardFor n m s a → Repeat n a → Short n 3 s
 repeat-short n m s a st r = repeat-gives-short n m s a (st .plan) r

@@ -163,7 +163,7 @@ mod exported {
             smallest_count: usize,
             witness: *mut u8,
             witness_count: usize,
-        ) -> super::Place;
+        ) -> super::FormAnswer;
         pub fn plan_smallest_of_runs(
             n: usize,
             g: usize,
@@ -175,7 +175,7 @@ mod exported {
             smallest_count: usize,
             witness: *mut u8,
             witness_count: usize,
-        ) -> super::MaskedPlace;
+        ) -> super::FormAnswer;
         pub fn plan_smallest_of_plans(
             n: usize,
             g: usize,
@@ -307,18 +307,11 @@ pub fn plan_check_witness(n: usize, g: usize, first: &[u16], second: &[u16], nam
     unsafe { exported::plan_check_witness(n, g, first.as_ptr(), count, second.as_ptr(), second.len(), names.as_ptr(), places, mask) }
 }
 
-/// The answer of a smallest form by columns: a refusal's number, 0 if accepted, and its first place in the list, from 1, 0 if absent.
+/// What is told of a smallest form: a refusal's number, 0 if accepted, the mask of the witness to it, and its first place in the list, from 1, 0 if
+/// absent.
 #[repr(C)]
 #[derive(Clone, Copy, Debug, PartialEq, Eq)]
-pub struct Place {
-    pub number: u8,
-    pub place: usize,
-}
-
-/// The answer of a smallest form by a run table: also the mask of the witness.
-#[repr(C)]
-#[derive(Clone, Copy, Debug, PartialEq, Eq)]
-pub struct MaskedPlace {
+pub struct FormAnswer {
     pub number: u8,
     pub mask: u16,
     pub place: usize,
@@ -326,7 +319,7 @@ pub struct MaskedPlace {
 
 /// The smallest form of the columns' plan, and a witness to it, for each factor of the given plan the factor of the smallest form that it
 /// becomes: N places each. The list that it is looked for in holds N columns a plan.
-pub fn plan_smallest_of_columns(n: usize, g: usize, columns: &[u8], list: &[u8], smallest: &mut [u8], witness: &mut [u8]) -> Place {
+pub fn plan_smallest_of_columns(n: usize, g: usize, columns: &[u8], list: &[u8], smallest: &mut [u8], witness: &mut [u8]) -> FormAnswer {
     let (count, among, places, names) = (columns.len(), list.len(), smallest.len(), witness.len());
     let (smallest, witness) = (smallest.as_mut_ptr(), witness.as_mut_ptr());
     // SAFETY: the lists are valid for the counts given with them, the lent ones overlap no other, and the call keeps none.
@@ -334,7 +327,7 @@ pub fn plan_smallest_of_columns(n: usize, g: usize, columns: &[u8], list: &[u8],
 }
 
 /// The same of the plan of a run table: the witness's mask is switched after its renaming.
-pub fn plan_smallest_of_runs(n: usize, g: usize, runs: &[u16], list: &[u8], smallest: &mut [u8], witness: &mut [u8]) -> MaskedPlace {
+pub fn plan_smallest_of_runs(n: usize, g: usize, runs: &[u16], list: &[u8], smallest: &mut [u8], witness: &mut [u8]) -> FormAnswer {
     let (count, among, places, names) = (runs.len(), list.len(), smallest.len(), witness.len());
     let (smallest, witness) = (smallest.as_mut_ptr(), witness.as_mut_ptr());
     // SAFETY: the lists are valid for the counts given with them, the lent ones overlap no other, and the call keeps none.

@@ -10,7 +10,7 @@ use Rattle.admission.specs.Faults.{columns-0, columns-5, columns-6, colu
 use Rattle.admission.specs.Admitting.{array-refused}
 use Rattle.standard.specs.Units.{standard-below}
 use Rattle.gf2.specs.DigitLaws.{pow-most}
-use Rattle.words.specs.Short.{plain-long, repeat-short}
+use Rattle.words.specs.Short.{distinct-long, repeat-short}
 
 power-requires : tie.Need-power-requires
 power-requires c κs = search needs
@@ -52,8 +52,8 @@ returns-2 c =
     let low : Below (a .n) (a .m) (a .columns) = λ f h. omega (arith, p, b (not-false _ t) f h) in
     array-refused (a .n) (a .m) (a .columns) 6 (c .refused2 .result) (c .refused2 .ensures) (omega arith) (columns-6 (a .n) (a .m) (a .columns) low (u .impossible (not-true _ v)))
 
-plain-requires : tie.Need-plain-requires
-plain-requires c κs =
+distinct-nonzero-requires : tie.Need-distinct-nonzero-requires
+distinct-nonzero-requires c κs =
     let a = c .before .before .before .before .before .before .before .args in
     let u = c .before .before .before .standardize .ensures in
     let v = c .before .if2 .left in
@@ -73,7 +73,7 @@ returns-3 c =
     let u = c .before .before .before .before .before .before .standardize .ensures in
     let v = c .before .before .before .before .if2 .left in
     let r = c .before .before .before .before .before .before .standardize .result in
-    let q = c .before .before .plain .ensures .1 in
+    let q = c .before .before .distinct-nonzero .ensures .1 in
     let x = c .before .if3 .taken in
     let low : Below (a .n) (a .m) (a .columns) = λ f h. omega (arith, p, b (not-false _ t) f h) in
     let st = u .standard (not-false _ v) in
@@ -89,17 +89,17 @@ returns-4 c =
     let u = c .before .before .before .before .before .standardize .ensures in
     let v = c .before .before .before .if2 .left in
     let r = c .before .before .before .before .before .standardize .result in
-    let q = c .before .plain .ensures .0 in
+    let q = c .before .distinct-nonzero .ensures .0 in
     let x = c .if3 .left in
     let low : Below (a .n) (a .m) (a .columns) = λ f h. omega (arith, p, b (not-false _ t) f h) in
     let st = u .standard (not-false _ v) in
     let pl = q (not-false _ x) in
     record {
-      lowest = columns-0 (a .n) (a .m) (a .columns) low (u .possible (not-false _ v)) (plain-long (a .n) (a .m) (planOf (a .n) (a .m) (a .columns)) (r .columns) st pl);
+      lowest = columns-0 (a .n) (a .m) (a .columns) low (u .possible (not-false _ v)) (distinct-long (a .n) (a .m) (planOf (a .n) (a .m) (a .columns)) (r .columns) st pl);
       refused = λ h. absurd (omega arith);
       start = refl;
       standard = λ _. st;
-      plain = λ _. pl;
+      distinct = λ _. pl;
       unused = λ _. u .unused;
     }
 
@@ -114,7 +114,7 @@ admit-array-spec =
     standardize-requires
     refused-requires-2
     returns-2
-    plain-requires
+    distinct-nonzero-requires
     refused-requires-3
     returns-3
     returns-4)

@@ -41,10 +41,10 @@ abbrev sizes-at : tie.Else3 → tie.Else1
 sizes-at c = c .before .before .before .before
 
 factors : (c : tie.Else3) → sizes-at c .before .before .args .design .factors ≡ sizes-at c .before .before .args .n
-factors c = sym (c .before .before .before .wide-byte .ensures .0) ∙ c .before .before .if2 .left
+factors c = sym (c .before .before .before .as-index .ensures .0) ∙ c .before .before .if2 .left
 
 basics : (c : tie.Else3) → sizes-at c .before .before .args .design .basics ≡ sizes-at c .before .before .args .n - sizes-at c .before .before .args .g
-basics c = sym (c .before .wide-byte2 .ensures .0) ∙ c .if3 .left
+basics c = sym (c .before .as-index2 .ensures .0) ∙ c .if3 .left
 
 size-number-requires : tie.Need-size-number-requires
 size-number-requires c κs = search needs
@@ -64,8 +64,8 @@ returns c =
 sub-m : tie.Need-sub-m
 sub-m c = omega (arith, sized c .less)
 
-wide-byte-requires : tie.Need-wide-byte-requires
-wide-byte-requires c κs = search needs
+as-index-requires : tie.Need-as-index-requires
+as-index-requires c κs = search needs
 
 refused-requires-2 : tie.Need-refused-requires-2
 refused-requires-2 c κs = search needs
@@ -76,11 +76,11 @@ returns-2 c =
     let s = o .before .before in
     plan-refused (s .args .n) (s .args .g) (either (fault s) (columns-fault s)) (plan s) (λ x. x ≡ 0) (most s) 4 (omega arith) (sized o)
     (first s 4 (omega arith) (omega arith)
-    (record-4 (s .args .n) (s .args .n - s .args .g) (s .args .design) (inl (λ e. c .before .if2 .taken (c .before .before .wide-byte .ensures .0 ∙ e)))))
+    (record-4 (s .args .n) (s .args .n - s .args .g) (s .args .design) (inl (λ e. c .before .if2 .taken (c .before .before .as-index .ensures .0 ∙ e)))))
     (c .refused2 .result) (c .refused2 .ensures)
 
-wide-byte-requires-2 : tie.Need-wide-byte-requires-2
-wide-byte-requires-2 c κs = search needs
+as-index-requires-2 : tie.Need-as-index-requires-2
+as-index-requires-2 c κs = search needs
 
 refused-requires-3 : tie.Need-refused-requires-3
 refused-requires-3 c κs = search needs
@@ -91,7 +91,7 @@ returns-3 c =
     let s = o .before .before in
     plan-refused (s .args .n) (s .args .g) (either (fault s) (columns-fault s)) (plan s) (λ x. x ≡ 0) (most s) 4 (omega arith) (sized o)
     (first s 4 (omega arith) (omega arith)
-    (record-4 (s .args .n) (s .args .n - s .args .g) (s .args .design) (inr (λ e. c .before .if3 .taken (c .before .before .wide-byte2 .ensures .0 ∙ e)))))
+    (record-4 (s .args .n) (s .args .n - s .args .g) (s .args .design) (inr (λ e. c .before .if3 .taken (c .before .before .as-index2 .ensures .0 ∙ e)))))
     (c .refused3 .result) (c .refused3 .ensures)
 
 unused-zero-requires : tie.Need-unused-zero-requires
@@ -130,10 +130,10 @@ admit-design-spec =
     refused-requires
     returns
     sub-m
-    wide-byte-requires
+    as-index-requires
     refused-requires-2
     returns-2
-    wide-byte-requires-2
+    as-index-requires-2
     refused-requires-3
     returns-3
     unused-zero-requires

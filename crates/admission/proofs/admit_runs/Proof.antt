@@ -20,7 +20,7 @@ use Rattle.gf2.specs.Members.{In, different-or-not}
 use Rattle.regular.specs.RefusalLaws.{table-least, runs-faults-most}
 use Rattle.regular.specs.Sizes.{Size}
 use Rattle.words.specs.Switches.{no-short-switched, short-switched}
-use Rattle.words.specs.Short.{plain-long, repeat-short}
+use Rattle.words.specs.Short.{distinct-long, repeat-short}
 
 -- the run table, its faults, and the plan with the first run switched to 0
 abbrev runs : tie.Start → List ℕ
@@ -132,8 +132,8 @@ returns-4 c =
     (c .before .before .before .table-columns .ensures .impossible (not-true _ (c .before .if4 .taken))))
     (c .refused4 .result) (c .refused4 .ensures)
 
-plain-requires : tie.Need-plain-requires
-plain-requires c κs =
+distinct-nonzero-requires : tie.Need-distinct-nonzero-requires
+distinct-nonzero-requires c κs =
     let v = c .before in
     let s = start-4 v in
     let z = sized (v .before .before .before .before .before .before .before .before) in
@@ -153,7 +153,7 @@ returns-5 c =
     plan-refused (s .args .n) (s .args .g) (fault s) (runsOf (runs s)) (from s) (most s) 7 (omega arith) (sized (o .before .before))
     (table-7 (s .args .n) (s .args .n - s .args .g) (runs s) (counted o) (low u) (d .ensures .possible (not-false _ (v .if4 .left)))
     (short-switched (s .args .n) (getD (runs s) 0 0) (runsOf (runs s)) 3
-    (repeat-short (s .args .n) (s .args .n - s .args .g) (plan s) (d .result .columns) (standard v) (c .before .before .plain .ensures .1 (not-true _ (c .before .if5 .taken))))))
+    (repeat-short (s .args .n) (s .args .n - s .args .g) (plan s) (d .result .columns) (standard v) (c .before .before .distinct-nonzero .ensures .1 (not-true _ (c .before .if5 .taken))))))
     (c .refused5 .result) (c .refused5 .ensures)
 
 -- the table has a first run
@@ -170,10 +170,10 @@ returns-6 c =
     let o = u .before .before .before in
     let s = start-4 v in
     let d = v .before .before .table-columns in
-    let pl = c .before .before .plain .ensures .0 (not-false _ (c .before .if5 .left)) in
+    let pl = c .before .before .distinct-nonzero .ensures .0 (not-false _ (c .before .if5 .left)) in
     accepted (s .args .n) (s .args .g) (fault s) (runsOf (runs s)) (from s) (most s) (getD (runs s) 0 0) (d .result .columns) (sized (o .before .before))
     (table-0 (s .args .n) (s .args .n - s .args .g) (runs s) (counted o) (low u) (d .ensures .possible (not-false _ (v .if4 .left)))
-    (no-short-switched (s .args .n) (getD (runs s) 0 0) (runsOf (runs s)) 3 (plain-long (s .args .n) (s .args .n - s .args .g) (plan s) (d .result .columns) (standard v) pl)))
+    (no-short-switched (s .args .n) (getD (runs s) 0 0) (runsOf (runs s)) 3 (distinct-long (s .args .n) (s .args .n - s .args .g) (plan s) (d .result .columns) (standard v) pl)))
     (λ x e. e) (low u (getD (runs s) 0 0) (place-in (runs s) 0 (some o))) (standard v) pl (d .ensures .unused)
 
 pub admit-runs-spec : {M : Type 1} → statement M
@@ -194,7 +194,7 @@ admit-runs-spec =
     table-columns-requires
     refused-requires-4
     returns-4
-    plain-requires
+    distinct-nonzero-requires
     refused-requires-5
     returns-5
     shared-slice-read-run

@@ -18,7 +18,7 @@ use Rattle.standard.specs.Units.{standard-below, below-128}
 use Rattle.regular.specs.RefusalLaws.{words-least, words-faults-most}
 use Rattle.regular.specs.Runs.{Runs}
 use Rattle.regular.specs.Sizes.{Size}
-use Rattle.words.specs.Short.{plain-long, repeat-short}
+use Rattle.words.specs.Short.{distinct-long, repeat-short}
 
 -- the words, their faults, and the plan that they generate
 abbrev words : tie.Start → List ℕ
@@ -120,8 +120,8 @@ returns-4 c =
     (words-6 (s .args .n) (s .args .g) (words s) (u .before .before .before .if2 .left) (low u) (found d .impossible (not-true _ (c .before .if4 .taken))))
     (c .refused4 .result) (c .refused4 .ensures)
 
-plain-requires : tie.Need-plain-requires
-plain-requires c κs =
+distinct-nonzero-requires : tie.Need-distinct-nonzero-requires
+distinct-nonzero-requires c κs =
     let d = c .before .before .before in
     let s = start-4 d in
     let z = sized (d .before .before .before .before .before) in
@@ -141,7 +141,7 @@ returns-5 c =
     let x = not-false _ (v .if4 .left) in
     plan-refused (s .args .n) (s .args .g) (fault s) (plan s) (from s) (most s) 7 (omega arith) (sized (u .before .before .before .before))
     (words-7 (s .args .n) (s .args .g) (words s) (u .before .before .before .if2 .left) (low u) (found d .possible x)
-    (repeat-short (s .args .n) (s .args .n - s .args .g) (plan s) (d .words-columns .result .columns) (found d .standard x) (c .before .before .plain .ensures .1 (not-true _ (c .before .if5 .taken)))))
+    (repeat-short (s .args .n) (s .args .n - s .args .g) (plan s) (d .words-columns .result .columns) (found d .standard x) (c .before .before .distinct-nonzero .ensures .1 (not-true _ (c .before .if5 .taken)))))
     (c .refused5 .result) (c .refused5 .ensures)
 
 returns-6 : tie.Need-returns-6
@@ -152,10 +152,10 @@ returns-6 c =
     let s = start-3 u in
     let x = not-false _ (v .if4 .left) in
     let a = d .words-columns .result .columns in
-    let pl = c .before .plain .ensures .0 (not-false _ (c .if5 .left)) in
+    let pl = c .before .distinct-nonzero .ensures .0 (not-false _ (c .if5 .left)) in
     accepted (s .args .n) (s .args .g) (fault s) (plan s) (from s) (most s) 0 a (sized (u .before .before .before .before))
     (words-0 (s .args .n) (s .args .g) (words s) (u .before .before .before .if2 .left) (low u) (found d .possible x)
-    (plain-long (s .args .n) (s .args .n - s .args .g) (plan s) a (found d .standard x) pl))
+    (distinct-long (s .args .n) (s .args .n - s .args .g) (plan s) a (found d .standard x) pl))
     (λ x e. e) (pow-pos (s .args .n)) (standard-unswitched (s .args .n) (s .args .n - s .args .g) (plan s) a (found d .standard x)) pl (found d .unused)
 
 pub admit-words-spec : {M : Type 1} → statement M
@@ -174,7 +174,7 @@ admit-words-spec =
     words-columns-requires
     refused-requires-4
     returns-4
-    plain-requires
+    distinct-nonzero-requires
     refused-requires-5
     returns-5
     returns-6)

@@ -18,11 +18,11 @@ loop-holds : tie.Need-loop-holds Inv-loop μ-loop
 loop-holds c =
     (omega arith, λ g h. absurd (omega arith))
 
-array-read-wide-byte : tie.Need-array-read-wide-byte Inv-loop μ-loop
-array-read-wide-byte c = search needs
+array-read-as-index : tie.Need-array-read-as-index Inv-loop μ-loop
+array-read-as-index c = search needs
 
-wide-byte-requires : tie.Need-wide-byte-requires Inv-loop μ-loop
-wide-byte-requires c κs = search needs
+as-index-requires : tie.Need-as-index-requires Inv-loop μ-loop
+as-index-requires c κs = search needs
 
 returns : tie.Need-returns Inv-loop μ-loop
 returns c =
@@ -54,8 +54,8 @@ columns-below-spec =
     Inv-loop
     μ-loop
     loop-holds
-    array-read-wide-byte
-    wide-byte-requires
+    array-read-as-index
+    as-index-requires
     returns
     add-f
     loop-less

@@ -15,11 +15,11 @@ Inv-loop n g r out₀ c₀ trail₀ count₀ base₀ out c trail count base = Fi
 abbrev μ-loop : tie.MeasureT-loop
 μ-loop n g r out₀ c₀ trail₀ count₀ base₀ out c trail count base = length out₀ - base
 
-trailhead-requires : tie.Need-trailhead-requires Inv-loop μ-loop
-trailhead-requires c κs = search needs
+walk-start-requires : tie.Need-walk-start-requires Inv-loop μ-loop
+walk-start-requires c κs = search needs
 
 loop-holds : tie.Need-loop-holds Inv-loop μ-loop
-loop-holds c = filling-none _ _ _ _ _ _ (c .trailhead .ensures .0)
+loop-holds c = filling-none _ _ _ _ _ _ (c .walk-start .ensures .0)
 
 sub-room : tie.Need-sub-room Inv-loop μ-loop
 sub-room c = let x = c .loop .inv in omega (arith, x .room, x .size)
@@ -71,7 +71,7 @@ list-catalogue-spec =
     (tie.spec
     Inv-loop
     μ-loop
-    trailhead-requires
+    walk-start-requires
     loop-holds
     sub-room
     advance-requires

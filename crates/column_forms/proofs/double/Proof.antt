@@ -28,8 +28,8 @@ add-sums c = search needs
 element-write-sums : tie.Need-element-write-sums Inv-loop μ-loop
 element-write-sums c = search needs
 
-wide-byte-requires : tie.Need-wide-byte-requires Inv-loop μ-loop
-wide-byte-requires c κs = search needs
+as-index-requires : tie.Need-as-index-requires Inv-loop μ-loop
+as-index-requires c κs = search needs
 
 add-places : tie.Need-add-places Inv-loop μ-loop
 add-places c = search needs
@@ -47,7 +47,7 @@ element-write-places c =
     let k = at .loop .k in
     let l : k < s .args .half = omega arith in
     let p = s .pre .4 k l in
-    omega (arith, xor-lt 7 (getD (at .loop .sums) k 0) (s .args .c) (omega (arith, at .loop .inv .3 .doubling .low k l)) (omega arith), c .wide-byte .ensures .0)
+    omega (arith, xor-lt 7 (getD (at .loop .sums) k 0) (s .args .c) (omega (arith, at .loop .inv .3 .doubling .low k l)) (omega arith), c .as-index .ensures .0)
 
 add-k : tie.Need-add-k Inv-loop μ-loop
 add-k c = search needs
@@ -59,8 +59,8 @@ loop-again : tie.Need-loop-again Inv-loop μ-loop
 loop-again c =
     let at = c .before .before .before in
     let i = at .loop .inv in
-    let b : c .wide-byte .result < 128 = element-write-places c in
-    (omega arith, search needs, search needs, grown-more _ _ _ _ _ _ _ _ (omega arith) (omega arith) (c .wide-byte .ensures .0) (omega arith) (i .3))
+    let b : c .as-index .result < 128 = element-write-places c in
+    (omega arith, search needs, search needs, grown-more _ _ _ _ _ _ _ _ (omega arith) (omega arith) (c .as-index .ensures .0) (omega arith) (i .3))
 
 returns : tie.Need-returns Inv-loop μ-loop
 returns c =
@@ -77,7 +77,7 @@ double-spec =
     element-copy-out-v
     add-sums
     element-write-sums
-    wide-byte-requires
+    as-index-requires
     add-places
     add-places-2
     cast-places

@@ -29,14 +29,14 @@ loop-holds c = (omega arith, refl, refl, refl, walk-none _ _ _)
 array-read-c : tie.Need-array-read-c Inv-loop μ-loop
 array-read-c c = search needs
 
-wide-byte-requires : tie.Need-wide-byte-requires Inv-loop μ-loop
-wide-byte-requires c κs = search needs
+as-index-requires : tie.Need-as-index-requires Inv-loop μ-loop
+as-index-requires c κs = search needs
 
 array-read-p : tie.Need-array-read-p Inv-loop μ-loop
 array-read-p c =
     let at = c .before .before in
     let m = at .before .args .m in
-    omega (arith, at .before .pre .2 (at .loop .f) (omega arith), pow-most m (omega arith), c .wide-byte .ensures .0)
+    omega (arith, at .before .pre .2 (at .loop .f) (omega arith), pow-most m (omega arith), c .as-index .ensures .0)
 
 sub-columns : tie.Need-sub-columns Inv-loop μ-loop
 sub-columns c = search needs
@@ -54,12 +54,12 @@ loop-again : tie.Need-loop-again Inv-loop μ-loop
 loop-again c =
     let at = c .before .before .before in
     let i = at .loop .inv in
-    (omega arith, search needs, i .2, i .3, walk-old _ _ _ _ _ _ _ _ (i .4) (omega arith) _ (c .before .wide-byte .ensures .0) (c .if1 .taken))
+    (omega arith, search needs, i .2, i .3, walk-old _ _ _ _ _ _ _ _ (i .4) (omega arith) _ (c .before .as-index .ensures .0) (c .if1 .taken))
 
 cast-columns : tie.Need-cast-columns Inv-loop μ-loop
 cast-columns c =
     let at = c .before .before .before in
-    record { fits = omega (arith, walk-room _ _ _ _ _ _ _ _ (at .loop .inv .4) (omega arith) (at .before .pre .2) (omega arith) _ (c .before .wide-byte .ensures .0) (c .if1 .left) (omega arith)) }
+    record { fits = omega (arith, walk-room _ _ _ _ _ _ _ _ (at .loop .inv .4) (omega arith) (at .before .pre .2) (omega arith) _ (c .before .as-index .ensures .0) (c .if1 .left) (omega arith)) }
 
 array-write-columns-2 : tie.Need-array-write-columns-2 Inv-loop μ-loop
 array-write-columns-2 c = search needs
@@ -70,7 +70,7 @@ double-requires c κs =
     let at = o .before .before .before in
     let i = at .loop .inv in
     let s = at .before in (
-      walk-room _ _ _ _ _ _ _ _ (i .4) (omega arith) (at .before .pre .2) (omega arith) _ (o .before .wide-byte .ensures .0) (o .if1 .left) (omega arith),
+      walk-room _ _ _ _ _ _ _ _ (i .4) (omega arith) (at .before .pre .2) (omega arith) _ (o .before .as-index .ensures .0) (o .if1 .left) (omega arith),
       omega (arith, s .pre .2 (at .loop .f) (omega arith), pow-most (s .args .m) (omega arith)),
       i .2,
       i .3,
@@ -82,7 +82,7 @@ add-half c =
     let o = c .before .before .before in
     let at = o .before .before .before in
     let i = at .loop .inv in
-    record { fits = omega (arith, walk-room _ _ _ _ _ _ _ _ (i .4) (omega arith) (at .before .pre .2) (omega arith) _ (o .before .wide-byte .ensures .0) (o .if1 .left) (omega arith)) }
+    record { fits = omega (arith, walk-room _ _ _ _ _ _ _ _ (i .4) (omega arith) (at .before .pre .2) (omega arith) _ (o .before .as-index .ensures .0) (o .if1 .left) (omega arith)) }
 
 add-f-2 : tie.Need-add-f-2 Inv-loop μ-loop
 add-f-2 c = search needs
@@ -100,7 +100,7 @@ loop-again-2 c =
       search needs,
       g .doubling .size ∙ i .2,
       g .wide ∙ i .3,
-      walk-new _ _ _ _ _ _ _ _ (i .4) (omega arith) (at .before .pre .2) (omega arith) _ (o .before .wide-byte .ensures .0) (o .if1 .left) _ _ g,
+      walk-new _ _ _ _ _ _ _ _ (i .4) (omega arith) (at .before .pre .2) (omega arith) _ (o .before .as-index .ensures .0) (o .if1 .left) _ _ g,
     )
 
 shl-if2 : tie.Need-shl-if2 Inv-loop μ-loop
@@ -125,7 +125,7 @@ standardize-spec =
     array-write-places
     loop-holds
     array-read-c
-    wide-byte-requires
+    as-index-requires
     array-read-p
     sub-columns
     array-write-columns

@@ -20,11 +20,11 @@ abbrev μ-loop : tie.MeasureT-loop
 loop-holds : tie.Need-loop-holds Inv-loop μ-loop
 loop-holds c = (omega arith, walked-none (c .args .t2))
 
-array-read-wide-byte : tie.Need-array-read-wide-byte Inv-loop μ-loop
-array-read-wide-byte c = search needs
+array-read-as-index : tie.Need-array-read-as-index Inv-loop μ-loop
+array-read-as-index c = search needs
 
-wide-byte-requires : tie.Need-wide-byte-requires Inv-loop μ-loop
-wide-byte-requires c κs = search needs
+as-index-requires : tie.Need-as-index-requires Inv-loop μ-loop
+as-index-requires c κs = search needs
 
 letter-requires : tie.Need-letter-requires Inv-loop μ-loop
 letter-requires c κs = search needs
@@ -52,7 +52,7 @@ loop-again c =
     let at = c .before .before .before .before in
     let s = at .before .args in
     let l = at .loop in
-    let wide = c .before .before .wide-byte .ensures .0 in
+    let wide = c .before .before .as-index .ensures .0 in
     let e : getD (s .t2) (l .f) 0 ≡ l .unit = omega (arith, wide) in
     (omega arith, walked-basic (s .t2) (l .f) (l .m) (l .unit) (l .basics) (l .words) (omega arith) (l .inv .1) (c .letter .result) e (c .letter .ensures))
 
@@ -85,7 +85,7 @@ loop-again-2 c =
     let at = c .before .before .before .before .before .before in
     let s = at .before .args in
     let l = at .loop in
-    let wide = c .before .before .before .before .wide-byte .ensures .0 in
+    let wide = c .before .before .before .before .as-index .ensures .0 in
     let ne : getD (s .t2) (l .f) 0 ≡ l .unit → ⊥ = λ e. omega (arith, wide) in
     let e : bitXor (c .before .before .letter2 .result) (c .basics-in .result) ≡ bitXor (1 * 2 ^ l .f) (total (l .basics) (l .m) (getD (s .t2) (l .f) 0)) =
     ap₂ bitXor (c .before .before .letter2 .ensures) (c .basics-in .ensures ∙ ap (total (l .basics) (l .m)) wide) in
@@ -105,8 +105,8 @@ generators-spec =
     Inv-loop
     μ-loop
     loop-holds
-    array-read-wide-byte
-    wide-byte-requires
+    array-read-as-index
+    as-index-requires
     letter-requires
     mul-basics
     array-write-basics

@@ -25,8 +25,8 @@ pattern-requires c κs = c .before .before .before .pre (c .before .before .if1 
 resolution-of-requires : tie.Need-resolution-of-requires
 resolution-of-requires c κs = c .before .before .before .before .pre (c .before .before .before .if1 .left) .size .most
 
-wide-byte-requires : tie.Need-wide-byte-requires
-wide-byte-requires c κs = search needs
+as-index-requires : tie.Need-as-index-requires
+as-index-requires c κs = search needs
 
 returns-3 : tie.Need-returns-3
 returns-3 c =
@@ -34,8 +34,8 @@ returns-3 c =
     let s = q .before .before .before .before .before .before in
     let a = s .args in
     let plan = planOf (a .n) (a .n - a .g) (a .plan .columns) in
-    let res = resolved (q .before .before .pattern .ensures .0) (q .before .resolution-of .ensures) (q .wide-byte .ensures .0) in
-    judges (a .n) (a .r) plan (a .plan .number) 0 (q .before .before .before .before .before .if1 .left) (wanted-none (a .n) (a .r) plan (resolved-none (a .n) (a .r) plan (q .wide-byte .result) res (c .if3 .taken)))
+    let res = resolved (q .before .before .pattern .ensures .0) (q .before .resolution-of .ensures) (q .as-index .ensures .0) in
+    judges (a .n) (a .r) plan (a .plan .number) 0 (q .before .before .before .before .before .if1 .left) (wanted-none (a .n) (a .r) plan (resolved-none (a .n) (a .r) plan (q .as-index .result) res (c .if3 .taken)))
 
 returns-4 : tie.Need-returns-4
 returns-4 c =
@@ -43,8 +43,8 @@ returns-4 c =
     let s = q .before .before .before .before .before .before in
     let a = s .args in
     let plan = planOf (a .n) (a .n - a .g) (a .plan .columns) in
-    let res = resolved (q .before .before .pattern .ensures .0) (q .before .resolution-of .ensures) (q .wide-byte .ensures .0) in
-    judges (a .n) (a .r) plan (a .plan .number) 7 (q .before .before .before .before .before .if1 .left) (resolved-short (a .n) (a .r) plan (q .wide-byte .result) res (c .before .if3 .left) (c .if4 .taken))
+    let res = resolved (q .before .before .pattern .ensures .0) (q .before .resolution-of .ensures) (q .as-index .ensures .0) in
+    judges (a .n) (a .r) plan (a .plan .number) 7 (q .before .before .before .before .before .if1 .left) (resolved-short (a .n) (a .r) plan (q .as-index .result) res (c .before .if3 .left) (c .if4 .taken))
 
 returns-5 : tie.Need-returns-5
 returns-5 c =
@@ -52,8 +52,8 @@ returns-5 c =
     let s = q .before .before .before .before .before .before in
     let a = s .args in
     let plan = planOf (a .n) (a .n - a .g) (a .plan .columns) in
-    let res = resolved (q .before .before .pattern .ensures .0) (q .before .resolution-of .ensures) (q .wide-byte .ensures .0) in
-    judges (a .n) (a .r) plan (a .plan .number) 0 (q .before .before .before .before .before .if1 .left) (wanted-none (a .n) (a .r) plan (resolved-long (a .n) (a .r) plan (q .wide-byte .result) res (c .if4 .left)))
+    let res = resolved (q .before .before .pattern .ensures .0) (q .before .resolution-of .ensures) (q .as-index .ensures .0) in
+    judges (a .n) (a .r) plan (a .plan .number) 0 (q .before .before .before .before .before .if1 .left) (wanted-none (a .n) (a .r) plan (resolved-long (a .n) (a .r) plan (q .as-index .result) res (c .if4 .left)))
 
 pub wanted-spec : {M : Type 1} → statement M
 wanted-spec =
@@ -63,7 +63,7 @@ wanted-spec =
     returns-2
     pattern-requires
     resolution-of-requires
-    wide-byte-requires
+    as-index-requires
     returns-3
     returns-4
     returns-5)

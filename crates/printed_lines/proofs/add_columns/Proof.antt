@@ -18,11 +18,11 @@ abbrev μ-loop : tie.MeasureT-loop
 loop-holds : tie.Need-loop-holds Inv-loop μ-loop
 loop-holds c = (c .before .pre .0, omega arith, omega arith, c .before .pre .1, search needs, columns-none _ _ (c .before .args .t2))
 
-array-read-wide-byte : tie.Need-array-read-wide-byte Inv-loop μ-loop
-array-read-wide-byte c = search needs
+array-read-as-index : tie.Need-array-read-as-index Inv-loop μ-loop
+array-read-as-index c = search needs
 
-wide-byte-requires : tie.Need-wide-byte-requires Inv-loop μ-loop
-wide-byte-requires c κs = search needs
+as-index-requires : tie.Need-as-index-requires Inv-loop μ-loop
+as-index-requires c κs = search needs
 
 add-next-requires : tie.Need-add-next-requires Inv-loop μ-loop
 add-next-requires c κs =
@@ -40,7 +40,7 @@ loop-again c =
     let a = c .before .before .before .before .before .before .before .before .args in
     let l = c .before .before .before .before .before .before .loop in
     let t = c .before .before .before .before .before .loop-test .taken in
-    let w = c .before .before .before .before .wide-byte in
+    let w = c .before .before .before .before .as-index in
     let h = c .before .before .add-next .ensures in
     (l .inv .0, omega (arith, t), omega (arith, h .0 .place, next-short 2 (w .result) (omega (arith, w .ensures)), l .inv), l .inv .3, l .inv .4, column-turn (a .t2) (l .f) (l .inv .5) (adds-is (ap (λ (x : ℕ). next x) (w .ensures .0)) (h .0)))
 
@@ -60,8 +60,8 @@ add-columns-spec =
     Inv-loop
     μ-loop
     loop-holds
-    array-read-wide-byte
-    wide-byte-requires
+    array-read-as-index
+    as-index-requires
     add-next-requires
     add-f
     loop-less

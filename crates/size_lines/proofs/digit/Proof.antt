@@ -8,11 +8,11 @@ returns : tie.Need-returns
 returns c =
     digit-past _ _ (c .if1 .taken)
 
-shared-slice-read-wide-byte : tie.Need-shared-slice-read-wide-byte
-shared-slice-read-wide-byte c = search needs
+shared-slice-read-as-index : tie.Need-shared-slice-read-as-index
+shared-slice-read-as-index c = search needs
 
-wide-byte-requires : tie.Need-wide-byte-requires
-wide-byte-requires c κs = search needs
+as-index-requires : tie.Need-as-index-requires
+as-index-requires c κs = search needs
 
 returns-2 : tie.Need-returns-2
 returns-2 c = search needs
@@ -25,4 +25,4 @@ returns-4 c = search needs
 
 pub digit-spec : {M : Type 1} → statement M
 digit-spec =
-    tie.close (tie.spec returns shared-slice-read-wide-byte wide-byte-requires returns-2 returns-3 returns-4)
+    tie.close (tie.spec returns shared-slice-read-as-index as-index-requires returns-2 returns-3 returns-4)

@@ -20,16 +20,16 @@ returns c = tells-no _ _ (λ w. omega (arith, w .count))
 loop-holds : tie.Need-loop-holds Inv-loop μ-loop
 loop-holds c = (omega arith, used-none _ _)
 
-shared-slice-read-wide-byte : tie.Need-shared-slice-read-wide-byte Inv-loop μ-loop
-shared-slice-read-wide-byte c = search needs
+shared-slice-read-as-index : tie.Need-shared-slice-read-as-index Inv-loop μ-loop
+shared-slice-read-as-index c = search needs
 
-wide-byte-requires : tie.Need-wide-byte-requires Inv-loop μ-loop
-wide-byte-requires c κs = search needs
+as-index-requires : tie.Need-as-index-requires Inv-loop μ-loop
+as-index-requires c κs = search needs
 
 returns-2 : tie.Need-returns-2 Inv-loop μ-loop
 returns-2 c =
     let at = c .before .before .before .before in
-    tells-no _ _ (past-not _ _ (at .loop .f) (c .before .wide-byte .result) (c .before .wide-byte .ensures .0) (omega arith) (omega arith))
+    tells-no _ _ (past-not _ _ (at .loop .f) (c .before .as-index .result) (c .before .as-index .ensures .0) (omega arith) (omega arith))
 
 level-requires : tie.Need-level-requires Inv-loop μ-loop
 level-requires c κs = search needs
@@ -37,7 +37,7 @@ level-requires c κs = search needs
 returns-3 : tie.Need-returns-3 Inv-loop μ-loop
 returns-3 c =
     let at = c .before .before .before .before .before .before in
-    let w = c .before .before .before .wide-byte in
+    let w = c .before .before .before .as-index in
     tells-no _ _ (twice-not _ _ (at .loop .f) (at .loop .seen) (w .result) (at .loop .inv .1) (w .ensures .0) (omega arith) (omega (arith, c .before .level .ensures .0)))
 
 cast-seen : tie.Need-cast-seen Inv-loop μ-loop
@@ -55,7 +55,7 @@ loop-less c = search needs
 loop-again : tie.Need-loop-again Inv-loop μ-loop
 loop-again c =
     let at = c .before .before .before .before .before .before in
-    let w = c .before .before .before .wide-byte in
+    let w = c .before .before .before .as-index in
     (omega arith, rw (mark-fits (w .result) (omega arith)) (used-more _ _ (at .loop .f) (at .loop .seen) (w .result) (at .loop .inv .1) (w .ensures .0) (omega arith) (omega (arith, c .before .level .ensures))))
 
 returns-4 : tie.Need-returns-4 Inv-loop μ-loop
@@ -69,8 +69,8 @@ each-once-spec =
     μ-loop
     returns
     loop-holds
-    shared-slice-read-wide-byte
-    wide-byte-requires
+    shared-slice-read-as-index
+    as-index-requires
     returns-2
     level-requires
     returns-3

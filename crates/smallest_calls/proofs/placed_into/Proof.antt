@@ -1,0 +1,52 @@
+-- `smallest_calls::placed_into` meets its contract: a refusal leaves the list; an accepted form is lent and looked for. Assumes nothing.
+use mathlib.Core.Path.{refl}
+use native.Mathlib.Omega.{arith}
+use Rattle.lent.specs.Lends.{lends-lent}
+use Rattle.smallest_calls.proofs.placed_into.Statement.{statement}
+use Rattle.smallest_calls.proofs.placed_into.Tie as tie
+use borrow.Author.Needs.{needs}
+
+returns : tie.Need-returns
+returns c =
+    record {
+      number = refl;
+      mask = refl;
+      no-place = λ _. refl;
+      untouched = λ _. refl;
+      lent = λ e. absurd (c .if1 .taken e);
+      place = λ e. absurd (c .if1 .taken e);
+      size = refl;
+    }
+
+lend-first-requires : tie.Need-lend-first-requires
+lend-first-requires c κs =
+    c .before .before .before .before .before .pre (c .before .before .if1 .left) .1
+
+first-columns-requires : tie.Need-first-columns-requires
+first-columns-requires c κs =
+    let p = c .before .before .before .before .before .before .before .before .pre (c .before .before .before .before .before .if1 .left) in
+    (p .0, p .1)
+
+same-length : tie.Need-same-length
+same-length c = search needs
+
+returns-2 : tie.Need-returns-2
+returns-2 c =
+    let l = c .before .before .before .lend-first in
+    let e = c .before .before .before .before .before .before .if1 .left in
+    let a = c .before .before .before .before .before .before .before .before .before .args in
+    let p = c .before .before .before .before .before .before .before .before .before .pre e in
+    record {
+      number = refl;
+      mask = refl;
+      no-place = λ h. absurd (omega (arith, e));
+      untouched = λ h. absurd (omega (arith, e));
+      lent = λ _. lends-lent (a .n) (a .form .design .columns) (a .out .now) (l .last .1 .1 .0) (l .result) (p .2) (l .ensures);
+      place = λ _. c .first-columns .ensures;
+      size = l .ensures .size;
+    }
+
+pub placed-into-spec : {M : Type 1} → statement M
+placed-into-spec =
+    tie.close
+    (tie.spec returns lend-first-requires first-columns-requires same-length returns-2)
