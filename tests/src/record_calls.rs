@@ -34,10 +34,11 @@ pub const WORDS_OF_DESIGN: usize = 9;
 pub const DISTANCES_OF_DESIGN: usize = 10;
 pub const COMPARE_DESIGNS: usize = 11;
 pub const FORM_OF_DESIGN: usize = 12;
+pub const IS_ENTRY: usize = 13;
 
 /// A call: which one, N, G, a number more, and the lists that it takes.
 ///
-/// The number is where the second list of words begins, or how many places are lent.
+/// The number is where the second list of words begins, how many places are lent, or R.
 #[derive(Clone, Debug, PartialEq, Eq)]
 pub struct Call {
     pub which: usize,
@@ -185,6 +186,16 @@ impl Call {
         accepted_record(self.n, self.g, &self.list[..RECORD])
     }
 
+    /// Whether the columns are their plan's smallest form, the sizes are in bounds and no word is shorter than R.
+    fn is_entry(&self) -> bool {
+        let plan = self.plan(Form::Columns);
+        (3..=16).contains(&self.k)
+            && plan.is_ok_and(|plan| {
+                let short = plan.answer(Question::Pattern).iter().take(self.k - 1).any(|&count| count > 0);
+                !short && smallest(self.n - self.g, &plan.answer(Question::Columns)) == self.list
+            })
+    }
+
     /// What the program must print, by the checking program.
     fn expected(&self) -> Expected {
         let fields = match self.which {
@@ -200,6 +211,7 @@ impl Call {
             DISTANCES_OF_DESIGN => lent(self.record(), Question::Distances, self.k),
             COMPARE_DESIGNS => return compared(self),
             FORM_OF_DESIGN => return reduced(self.record(), self.list[RECORD] as u8, self.k, &[]),
+            IS_ENTRY => vec![("entry", vec![self.is_entry().into()])],
             which => panic!("no call {which}"),
         };
         Expected { fields, witness: None }

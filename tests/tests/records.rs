@@ -3,6 +3,7 @@
 use plan_tests::calls::Given;
 use plan_tests::check::plan::Form;
 use plan_tests::check::runs::runs_of_columns;
+use plan_tests::check::smallest::smallest;
 use plan_tests::known::in_other_basics;
 use plan_tests::random::Random;
 use plan_tests::record_calls::*;
@@ -102,7 +103,7 @@ fn the_programs_own_examples_are_answered_as_defined() {
     let calls: Vec<Call> = input.lines().map(Call::read).collect();
     compare_calls(&calls);
     let made: BTreeSet<usize> = calls.iter().map(|call| call.which).collect();
-    assert_eq!(made, (DESIGN_OF_WORDS..=FORM_OF_DESIGN).collect());
+    assert_eq!(made, (DESIGN_OF_WORDS..=IS_ENTRY).collect());
 }
 
 #[test]
@@ -142,6 +143,33 @@ fn damaged_lists_and_records_are_refused_under_the_lowest_number_and_every_numbe
     let answers = compare_calls(&calls);
     assert_reached(&ON_LISTS.map(|(which, _)| which), &[0, 1, 2, 4, 5, 6, 7], &calls, &answers);
     assert_reached(&ON_RECORDS, &[1, 2, 4, 5, 6, 7], &calls, &answers);
+}
+
+/// Every list of n columns of up to m bits.
+fn all_lists(n: usize, m: usize) -> impl Iterator<Item = Vec<u32>> {
+    (0..1u32 << (n * m)).map(move |code| (0..n).map(|f| code >> (f * m) & ((1 << m) - 1)).collect())
+}
+
+#[test]
+fn columns_are_an_entry_exactly_if_they_are_in_the_catalogue() {
+    let mut calls = Vec::new();
+    for (n, m) in [(1, 1), (2, 2), (3, 2), (4, 3), (3, 3)] {
+        for r in 2..6 {
+            calls.extend(all_lists(n, m).map(|list| Call { which: IS_ENTRY, n, g: n - m, k: r, list }));
+        }
+    }
+    let mut random = Random::new(0x9e37_79b9_7f4a_7c15);
+    for _ in 0..150 {
+        let Sample { n, m, columns } = sample(&mut random);
+        let form = smallest(m, &columns);
+        let mut later = form.clone();
+        later.swap(0, n - 1);
+        for list in [columns, form.clone(), later, form[1..].to_vec()] {
+            calls.push(Call { which: IS_ENTRY, n, g: n - m, k: 2 + random.below(6), list });
+        }
+    }
+    let answers = compare_calls(&calls);
+    assert_eq!(answers.iter().map(|answer| answer.1).collect::<BTreeSet<_>>(), BTreeSet::from([0, 1]));
 }
 
 #[test]

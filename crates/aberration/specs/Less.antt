@@ -1,12 +1,14 @@
 -- Less aberration by the patterns, whichever lists hold them, and which list is handed back.
-use mathlib.Core.Path.{_≡_, refl, subst, _∙_}
+use mathlib.Core.Path.{_≡_, refl, sym, subst, _∙_}
+use mathlib.Core.Bool.{Bool}
 use mathlib.Core.List.{List}
 use Prim.Native.Nat.{ℕ, _-_, _≤_, _<_}
 use native.Mathlib.Omega.{arith}
 use lib.ListN.{take}
 use denote.Ref.{RefT}
+use Rattle.gf2.specs.Answers.{Tells}
 use Rattle.regular.specs.Runs.{Runs}
-use Rattle.regular.specs.Pattern.{Pattern, Better, LessAberration}
+use Rattle.regular.specs.Pattern.{Pattern, Better, LessAberration, lastLength}
 use Rattle.regular.specs.Columns.{planOf}
 use Rattle.regular.specs.Refusals.{either, Lowest, Chooses, HandsBack}
 use Rattle.regular.specs.Given.{Given}
@@ -18,8 +20,9 @@ use Rattle.measures.specs.Measured.{pattern-given, pattern-columns}
 use Rattle.regular.specs.RefusalLaws.{lowest-unique, Lower, lowest-lower, lower-none}
 
 -- the better of two patterns is better in every pair of lists that hold them
-better-same : (n m : ℕ) (s t : Runs) (p q u v : List ℕ) → m ≤ n → Pattern n t p → Pattern n s q → Pattern n t u → Pattern n s v → Better m u v → Better m p q
-better-same n m s t p q u v h tp sq tu sv b =
+better-same : (n last : ℕ) (s t : Runs) (p q u v : List ℕ) → last ≤ n → Pattern n t p → Pattern n s q → Pattern n t u → Pattern n s v
+    → Better last u v → Better last p q
+better-same n last s t p q u v h tp sq tu sv b =
     let f = b .from in
     let e = b .to in
     record {
@@ -30,8 +33,17 @@ better-same n m s t p q u v h tp sq tu sv b =
       fewer = omega (arith, b .fewer, pattern-unique n t p u tp tu (b .at) (omega arith) (omega arith), pattern-unique n s q v sq sv (b .at) (omega arith) (omega arith));
     }
 
-pub less-better : (n m : ℕ) (t s : Runs) (p q : List ℕ) → m ≤ n → Pattern n t p → Pattern n s q → LessAberration n m t s → Better m p q
-less-better n m t s p q h tp sq l = better-same n m s t p q (l .p) (l .q) h tp sq (l .of-t) (l .of-s) (l .better)
+less-better : (n m : ℕ) (t s : Runs) (p q : List ℕ) → lastLength n m ≤ n → Pattern n t p → Pattern n s q → LessAberration n m t s
+    → Better (lastLength n m) p q
+less-better n m t s p q h tp sq l = better-same n (lastLength n m) s t p q (l .p) (l .q) h tp sq (l .of-t) (l .of-s) (l .better)
+
+-- so the patterns decide, compared up to `last`
+pub less-told : {n m last : ℕ} {t s : Runs} {p q : List ℕ} {r : Bool} → last ≡ lastLength n m → lastLength n m ≤ n → Pattern n t p → Pattern n s q
+    → Tells r (Better last p q) (Better last p q → ⊥) → Tells r (LessAberration n m t s) (LessAberration n m t s → ⊥)
+less-told {n} {m} {last} {t} {s} {p} {q} e h tp sq b = (
+  λ y. record { p = p; q = q; of-t = tp; of-s = sq; better = subst (λ (l : ℕ). Better l p q) e (b .0 y) },
+  λ y less. b .1 y (subst (λ (l : ℕ). Better l p q) (sym e) (less-better n m t s p q h tp sq less)),
+)
 
 -- the lists of two admitted plans p and q, of which one is handed back; r is the call's number
 module _ {n g : ℕ} {p q : Given} {a b : Admitted} {r : ℕ} (pa : Admission n g p a) (qb : Admission n g q b) (l : Lower (a .number) (b .number) r) where

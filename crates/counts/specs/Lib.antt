@@ -4,5 +4,6 @@ pub mod Models
 pub mod WordCounts
 pub mod Patterns
 pub mod Resolutions
+pub mod ShortWords
 pub mod Distances
 pub mod PlanCounts

@@ -23,7 +23,7 @@ resolution-unique n s a b (Resolution.shortest w x l) (Resolution.shortest v y m
 
 module _ (n : ℕ) (s : Runs) (p : List ℕ) (pat : Pattern n s p) where
   -- a word has a length with a count above 0
-  word-counted : (w : ℕ) → Word n s w → ofLength p (letters w) ≡ 0 → ⊥
+  pub word-counted : (w : ℕ) → Word n s w → ofLength p (letters w) ≡ 0 → ⊥
   word-counted w h e =
       count-zero (λ v. Word n s v × (letters v ≡ letters w)) (ofLength p (letters w)) e (pat .counts (letters w) (word-some n s w h) (word-most n s w h)) w (h, refl)
 

@@ -18,6 +18,7 @@ use Rattle.gf2.specs.Doubling.{Doubling}
 use Rattle.gf2.specs.Fill.{zeros}
 use Rattle.counts.specs.Models.{PatternModel, DistanceModel, firstLength}
 use Rattle.counts.specs.Resolutions.{first-none, first-here, first-kept}
+use Rattle.counts.specs.ShortWords.{CountBelow}
 use Rattle.counts.specs.Tally.{tally, tally-start, tally-hit, tally-miss, tally-le, tally-same}
 use Rattle.regular.specs.Pattern.{Better, ofLength}
 use Rattle.regular.specs.Words.{letters, total}
@@ -151,3 +152,15 @@ module _ (m : ℕ) (p q : List ℕ) (l : ℕ) (from : 3 ≤ l) (same : (k : ℕ)
 
   pub better-none : m < l → Better m p q → ⊥
   better-none h b = omega (arith, same (b .at) (omega (arith, b .to)) (b .from), b .fewer)
+
+-- the lengths that are looked at for a word of fewer than r letters: none up to i has a count; length i + 1 has one, or none
+pub below-found : {n r i : ℕ} (p : List ℕ) → i < n → i + 1 < r → 0 < getD p i 0 → CountBelow n r p
+below-found {n} {r} {i} p l more some =
+    let e : i + 1 - 1 ≡ i = omega arith in
+    (i + 1, (omega arith, (omega arith, (more, omega (arith, some, ap (λ (k : ℕ). getD p k 0) e)))))
+
+pub below-next : {i : ℕ} (p : List ℕ) → ((l : ℕ) → 1 ≤ l → l ≤ i → ofLength p l ≡ 0) → getD p i 0 ≤ 0 → (l : ℕ) → 1 ≤ l → l ≤ i + 1 → ofLength p l ≡ 0
+below-next {i} p none z l some most =
+    by-cases (ℕ-discrete l (i + 1))
+    (λ e. let q : l - 1 ≡ i = omega arith in omega (arith, ap (λ (k : ℕ). getD p k 0) q))
+    (λ ne. none l some (omega arith))

@@ -1,12 +1,12 @@
 // Pattern, resolution, distance counts, and which of two patterns is better, on plain numbers and arrays.
-// Public for the calls on plans, which check their arguments first.
-ghost use mathlib.Core.Bool.{true, false};
 ghost use mathlib.Core.Path.{_≡_};
 ghost use Prim.Native.Nat.{_≤_};
 ghost use lib.ListN.{length};
+ghost use Rattle.gf2.specs.Answers.{Tells};
 ghost use Rattle.gf2.specs.Doubling.{Doubling};
 ghost use Rattle.regular.specs.Pattern.{Better};
 ghost use Rattle.counts.specs.Models.{PatternModel, DistanceModel, firstLength};
+ghost use Rattle.counts.specs.ShortWords.{CountBelow, NoneBelow};
 ghost use Rattle.patterns.specs.Steps.{Products, LetterCounts, FromOne};
 
 // Puts each of the first half numbers, with w, half places further.
@@ -79,8 +79,7 @@ pub fn pattern_of(n: usize, g: usize, words: [u16; 16]) -> [u16; 16]
     from_one(n, counts)
 }
 
-// The resolution from the pattern: the first length with a word, 0 if there is none. Called by the calls on resolution and
-// the refusal of several plans.
+// The resolution from the pattern: the first length with a word, 0 if there is none.
 pub fn resolution_of(n: usize, pattern: [u16; 16]) -> u8
     requires { ⌜ n ≤ 16 ⌝ }
     ensures { λ r. ⌜ r ≡ firstLength n pattern ⌝ }
@@ -95,7 +94,25 @@ pub fn resolution_of(n: usize, pattern: [u16; 16]) -> u8
     0
 }
 
-// How many of the first `end` runs have i low levels, at place i. Called by the calls on distance counts.
+// Whether some word has fewer than r letters.
+pub fn word_below(n: usize, r: usize, pattern: [u16; 16]) -> bool
+    requires { ⌜ n ≤ 16 ⌝ }
+    ensures { λ res. ⌜ Tells res (CountBelow n r pattern) (NoneBelow n r pattern) ⌝ }
+{
+    let mut i: usize = 0;
+    while i < n {
+        if r <= i + 1 {
+            return false;
+        }
+        if 0 < pattern[i] {
+            return true;
+        }
+        i += 1;
+    }
+    false
+}
+
+// How many of the first `end` runs have i low levels, at place i.
 pub fn distances_of(end: usize, runs: [u16; 128]) -> [u16; 17]
     requires { ⌜ end ≤ 128 ⌝ }
     ensures { λ r. ⌜ DistanceModel 16 end runs r ⌝ }
@@ -103,13 +120,13 @@ pub fn distances_of(end: usize, runs: [u16; 128]) -> [u16; 17]
     letter_counts(&runs, end)
 }
 
-// Whether p has the smaller count at the first length from 3 to m where the two differ. Called by the call on aberration.
-pub fn better(m: usize, p: [u16; 16], q: [u16; 16]) -> bool
-    requires { ⌜ m ≤ 16 ⌝ }
-    ensures { λ r. ⌜ ((r ≡ true) → Better m p q) × ((r ≡ false) → Better m p q → ⊥) ⌝ }
+// Whether p has the smaller count at the first length from 3 to `last` where the two differ.
+pub fn better(last: usize, p: [u16; 16], q: [u16; 16]) -> bool
+    requires { ⌜ last ≤ 16 ⌝ }
+    ensures { λ r. ⌜ Tells r (Better last p q) (Better last p q → ⊥) ⌝ }
 {
     let mut l: usize = 3;
-    while l <= m {
+    while l <= last {
         let a = p[l - 1];
         let b = q[l - 1];
         if a != b {

@@ -16,7 +16,7 @@ use Rattle.regular.specs.Words.{NoShort}
 use Rattle.regular.specs.Columns.{planOf}
 use Rattle.regular.specs.Designs.{blank}
 use Rattle.regular.specs.Pattern.{Pattern, Resolution}
-use Rattle.regular.specs.Refusals.{ResolutionFault, ColumnsFault, WantedFault, either, Lowest, sizeFaults}
+use Rattle.regular.specs.Refusals.{Short, ResolutionFault, ColumnsFault, WantedFault, either, Lowest, sizeFaults}
 use Rattle.regular.specs.RefusalLaws.{lowest-none, lowest-at, lowest-same, lowest-first, lowest-then, lowest-lower, none-lowest, list-is, columns-least, Lower}
 use Rattle.regular.specs.PlanLists.{planAt, HasPlan, BytesFault, ofSome, recordsFaults, plansFaults, wantedRecordsFaults, wantedPlansFaults}
 use Rattle.regular.specs.declared.Design.{Design}
@@ -44,29 +44,16 @@ wanted-none n r s long = lowest-none (WantedFault n r s) never
     never : (k : ℕ) → WantedFault n r s k → ⊥
     never k (WantedFault.short w) = omega (arith, long (w .word) (w .is), w .few)
 
+-- a word is
+pub wanted-short : (n r : ℕ) (s : Runs) → Short n r s → Lowest (WantedFault n r s) 7
+wanted-short n r s short = lowest-at (WantedFault n r s) 7 (omega arith) (WantedFault.short short) (λ k f. omega (arith, wanted-is n r s k f))
+
 -- nor than 3, so than less
 pub wanted-low : (n r : ℕ) (s : Runs) → r ≤ 3 → NoShort n 3 s → Lowest (WantedFault n r s) 0
 wanted-low n r s low long = wanted-none n r s (λ w is. omega (arith, long w is))
 
 pub ready-long : {n g : ℕ} {a : List ℕ} → Ready n g a → NoShort n 3 (planOf n (n - g) a)
 ready-long {n} {g} {a} r = distinct-long n (n - g) (planOf n (n - g) a) a (record { form = r .form; plan = record { into = λ x p. p; onto = λ x p. p } }) (r .distinct)
-
--- what the resolution q says, found as the pattern's first length and widened
-pub resolved : {n : ℕ} {s : Runs} {p : List ℕ} {q w : ℕ} → Pattern n s p → q ≡ firstLength n p → w ≡ q → Resolution n s w
-resolved {n} {s} {p} c e f = subst (Resolution n s) (sym (f ∙ e)) (resolution-of-pattern n s p c)
-
-pub resolved-none : (n r : ℕ) (s : Runs) (q : ℕ) → Resolution n s q → q ≡ 0 → NoShort n r s
-resolved-none n r s q (Resolution.full h) e w is = absurd (h w is)
-resolved-none n r s q (Resolution.shortest v v-is least) e w is = absurd (omega (arith, ones-some n v (v-is .some) (v-is .within)))
-
-pub resolved-long : (n r : ℕ) (s : Runs) (q : ℕ) → Resolution n s q → r ≤ q → NoShort n r s
-resolved-long n r s q (Resolution.full h) l w is = absurd (h w is)
-resolved-long n r s q (Resolution.shortest v v-is least) l w is = omega (arith, least w is)
-
-pub resolved-short : (n r : ℕ) (s : Runs) (q : ℕ) → Resolution n s q → (q ≡ 0 → ⊥) → q < r → Lowest (WantedFault n r s) 7
-resolved-short n r s q (Resolution.full h) some l = absurd (some refl)
-resolved-short n r s q (Resolution.shortest v v-is least) some l =
-    lowest-at (WantedFault n r s) 7 (omega arith) (WantedFault.short (record { word = v; is = v-is; few = l })) (λ k f. omega (arith, wanted-is n r s k f))
 
 -- a refusal is passed on; an admitted plan is judged
 pub passed-on : (n r : ℕ) (s : Runs) (number : ℕ) → (number ≡ 0 → ⊥) → Verdict n r s number number

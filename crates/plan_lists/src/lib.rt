@@ -28,11 +28,7 @@ fn wanted(n: usize, g: usize, r: usize, plan: Admitted) -> u8
     }
     let columns = plan.columns;
     let counts = measures::pattern(n, g, columns);
-    let resolution = bits::as_index(patterns::resolution_of(n, counts));
-    if resolution == 0 {
-        return 0;
-    }
-    if resolution < r {
+    if patterns::word_below(n, r, counts) {
         return 7;
     }
     0
@@ -47,7 +43,7 @@ fn design_refusal(n: usize, g: usize, r: usize, design: Design) -> u8
 }
 
 // The number of a list of columns.
-fn columns_refusal(n: usize, g: usize, r: usize, list: &[u8]) -> u8
+pub fn columns_refusal(n: usize, g: usize, r: usize, list: &[u8]) -> u8
     ensures { λ k. ⌜ Lowest (columnsWanted n g r (now (list .entry))) k ⌝ }
 {
     let plan = admission::admit_columns(n, g, list);

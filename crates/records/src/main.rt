@@ -204,6 +204,18 @@ fn resolution_of_columns(n: usize, g: usize, list: &[u16]) {
     print_resolution(measures::resolution_of_columns(n, g, &columns[..count]));
 }
 
+// Whether columns are an entry of the catalogue of n, g and r: 1 if so, else 0.
+fn is_entry(n: usize, g: usize, r: usize, list: &[u16]) {
+    let mut columns = [0u8; LENT];
+    copy_bytes(list, 0, &mut columns);
+    let count = list.len();
+    if LENT < count {
+        return;
+    }
+    let entry = entry_test::is_entry(n, g, r, &columns[..count]);
+    print_number(b" entry", entry as u64);
+}
+
 // Of two lists of words, the first of them the first k numbers.
 fn less_aberration(n: usize, g: usize, k: usize, list: &[u16]) {
     if list.len() < k {
@@ -272,6 +284,7 @@ fn answer(line: &[u16])
         7 => less_aberration(n, g, k, list),
         8 => print_runs(forms::runs_of_design(n, g, design_at(list, 0))),
         9..=10 => call_for_numbers(call, n, g, k, design_at(list, 0)),
+        13 => is_entry(n, g, k, list),
         _ => call_for_names(call, n, g, k, list),
     }
     io::write_all(STDOUT_FILENO, b"\n");

@@ -22,7 +22,7 @@ use Rattle.regular.specs.Designs.{Holds}
 use Rattle.regular.specs.Comparisons.{Witness}
 use Rattle.regular.specs.Refusals.{Short}
 use Rattle.regular.specs.Same.{moved, Renaming, Same}
-use Rattle.regular.specs.Smallest.{Rising, Equal, Before, Smallest, Entry, ReachesOne, Demand3}
+use Rattle.regular.specs.Smallest.{Rising, Equal, Before, Smallest, Entry, IsEntry, ReachesOne, Demand3}
 use Rattle.regular.specs.declared.Design.{Design}
 use Rattle.standard.specs.Form.{unitsBefore, StandardFor, DistinctNonzero, Repeat}
 use Rattle.standard.specs.Plans.{word-cancels, cancels-word}
@@ -334,6 +334,9 @@ smallest-abc = catalogue-4 .sound 0 (omega arith) .smallest
 pub entry-abc : Entry 4 3 3 abc
 entry-abc = catalogue-4 .sound 0 (omega arith)
 
+pub is-entry-abc : IsEntry 4 1 3 abc
+is-entry-abc = record { sizes = sized-4; count = refl; entry = entry-abc }
+
 pub before-abc : Before 4 abc abcd
 before-abc = catalogue-4 .order 0 1 (omega arith) (omega arith)
 
@@ -347,6 +350,9 @@ not-entry e =
     (λ z. omega (arith, subst (λ (i : ℕ). Equal 4 (getD (abc ∷ abcd ∷ []) i []) bcd) z (r .1 .1) 2 (omega arith)))
     (λ z. let o : r .0 ≡ 1 = omega (arith, r .1 .0) in
     omega (arith, subst (λ (i : ℕ). Equal 4 (getD (abc ∷ abcd ∷ []) i []) bcd) o (r .1 .1) 3 (omega arith)))
+
+pub not-is-entry : IsEntry 4 1 3 bcd → ⊥
+not-is-entry e = not-entry (e .entry)
 
 -- demand 3: BCD's plan with A and D switched, its runs in some order, reaches one entry, which is ABC
 abbrev pub disguised : List ℕ

@@ -10,10 +10,10 @@ use Rattle.patterns.proofs.better.Statement.{statement}
 use Rattle.patterns.proofs.better.Tie as tie
 
 abbrev Inv-loop : tie.InvT-loop
-Inv-loop m p q l₀ l = (3 ≤ l) × (l ≤ 17) × ((k : ℕ) → k < l → 3 ≤ k → ofLength p k ≡ ofLength q k)
+Inv-loop last p q l₀ l = (3 ≤ l) × (l ≤ 17) × ((k : ℕ) → k < l → 3 ≤ k → ofLength p k ≡ ofLength q k)
 
 abbrev μ-loop : tie.MeasureT-loop
-μ-loop m p q l₀ l = 17 - l
+μ-loop last p q l₀ l = 17 - l
 
 loop-holds : tie.Need-loop-holds Inv-loop μ-loop
 loop-holds c = (omega arith, omega arith, λ k a b. absurd (omega arith))

@@ -1,8 +1,8 @@
--- `plan_lists::wanted` meets its contract: a refusal is passed on; no word is shorter than 3; else the resolution decides. Assumes nothing.
+-- `plan_lists::wanted` meets its contract: a refusal is passed on; no word is shorter than 3; else the pattern decides. Assumes nothing.
 use Prim.Native.Nat.{_-_}
-use borrow.Author.Needs.{needs}
 use Rattle.regular.specs.Columns.{planOf}
-use Rattle.plan_lists.specs.Judging.{ready-long, passed-on, judges, wanted-low, wanted-none, resolved, resolved-none, resolved-long, resolved-short}
+use Rattle.counts.specs.ShortWords.{count-short, none-short}
+use Rattle.plan_lists.specs.Judging.{ready-long, passed-on, judges, wanted-low, wanted-none, wanted-short}
 use Rattle.plan_lists.proofs.wanted.Statement.{statement}
 use Rattle.plan_lists.proofs.wanted.Tie as tie
 
@@ -22,48 +22,25 @@ returns-2 c =
 pattern-requires : tie.Need-pattern-requires
 pattern-requires c κs = c .before .before .before .pre (c .before .before .if1 .left)
 
-resolution-of-requires : tie.Need-resolution-of-requires
-resolution-of-requires c κs = c .before .before .before .before .pre (c .before .before .before .if1 .left) .size .most
-
-as-index-requires : tie.Need-as-index-requires
-as-index-requires c κs = search needs
+word-below-requires : tie.Need-word-below-requires
+word-below-requires c κs = c .before .before .before .before .pre (c .before .before .before .if1 .left) .size .most
 
 returns-3 : tie.Need-returns-3
 returns-3 c =
     let q = c .before in
-    let s = q .before .before .before .before .before .before in
+    let s = q .before .before .before .before .before in
     let a = s .args in
-    let plan = planOf (a .n) (a .n - a .g) (a .plan .columns) in
-    let res = resolved (q .before .before .pattern .ensures .0) (q .before .resolution-of .ensures) (q .as-index .ensures .0) in
-    judges (a .n) (a .r) plan (a .plan .number) 0 (q .before .before .before .before .before .if1 .left) (wanted-none (a .n) (a .r) plan (resolved-none (a .n) (a .r) plan (q .as-index .result) res (c .if3 .taken)))
+    let short = count-short (q .before .pattern .ensures .0) (a .r) (q .word-below .ensures .0 (c .if3 .taken)) in
+    judges (a .n) (a .r) (planOf (a .n) (a .n - a .g) (a .plan .columns)) (a .plan .number) 7 (q .before .before .before .before .if1 .left) (wanted-short _ _ _ short)
 
 returns-4 : tie.Need-returns-4
 returns-4 c =
-    let q = c .before .before in
-    let s = q .before .before .before .before .before .before in
+    let q = c .before in
+    let s = q .before .before .before .before .before in
     let a = s .args in
     let plan = planOf (a .n) (a .n - a .g) (a .plan .columns) in
-    let res = resolved (q .before .before .pattern .ensures .0) (q .before .resolution-of .ensures) (q .as-index .ensures .0) in
-    judges (a .n) (a .r) plan (a .plan .number) 7 (q .before .before .before .before .before .if1 .left) (resolved-short (a .n) (a .r) plan (q .as-index .result) res (c .before .if3 .left) (c .if4 .taken))
-
-returns-5 : tie.Need-returns-5
-returns-5 c =
-    let q = c .before .before in
-    let s = q .before .before .before .before .before .before in
-    let a = s .args in
-    let plan = planOf (a .n) (a .n - a .g) (a .plan .columns) in
-    let res = resolved (q .before .before .pattern .ensures .0) (q .before .resolution-of .ensures) (q .as-index .ensures .0) in
-    judges (a .n) (a .r) plan (a .plan .number) 0 (q .before .before .before .before .before .if1 .left) (wanted-none (a .n) (a .r) plan (resolved-long (a .n) (a .r) plan (q .as-index .result) res (c .if4 .left)))
+    let long = none-short (q .before .pattern .ensures .0) (a .r) (q .word-below .ensures .1 (c .if3 .left)) in
+    judges (a .n) (a .r) plan (a .plan .number) 0 (q .before .before .before .before .if1 .left) (wanted-none (a .n) (a .r) plan long)
 
 pub wanted-spec : {M : Type 1} → statement M
-wanted-spec =
-    tie.close
-    (tie.spec
-    returns
-    returns-2
-    pattern-requires
-    resolution-of-requires
-    as-index-requires
-    returns-3
-    returns-4
-    returns-5)
+wanted-spec = tie.close (tie.spec returns returns-2 pattern-requires word-below-requires returns-3 returns-4)
