@@ -1,6 +1,6 @@
 -- `book::write_book_of_designs` meets its contract: a walk of its MIR, by hand. The borrow of the bytes is opened once, before the first call, and closed once,
 -- after the loop; for each call that writes, the bytes are lent for a lifetime that is made and ended here. A turn copies record i out of the list and
--- calls `add`, which is covered. The loop's state is i, the bytes as they stand and the answer so far (`Progress`); its measure is the number of records
+-- calls `add`, which is covered. The loop's state is i, the bytes as they stand and the answer so far (`BookSoFar`); its measure is the number of records
 -- left. Assumes nothing.
 use mathlib.Core.Path.{_≡_, refl, sym, _∙_, ap, subst}
 use mathlib.Core.Bool.{Bool, true, false}
@@ -58,9 +58,9 @@ use Rattle.regular.specs.declared.BookAnswer.{BookAnswer}
 use Rattle.regular.specs.Designs.{blank, offset-fits}
 use Rattle.regular.specs.Refusals.{Lowest, designFaults}
 use Rattle.regular.specs.PlanLists.{wantedRecordsFaults}
-use Rattle.regular.specs.Book.{WritesDesigns}
-use Rattle.book.specs.Writing.{entryLength, Opened, Adds}
-use Rattle.book.specs.DesignLaws.{Progress, records-bounds, progress-start, progress-room, progress-more, progress-end}
+use Rattle.regular.specs.Book.{entryLength, WritesDesigns}
+use Rattle.book.specs.Writing.{Opened, EntryAdded}
+use Rattle.book.specs.DesignLaws.{BookSoFar, records-bounds, progress-start, progress-room, progress-more, progress-end}
 use Rattle.regular.proofs.Design as T
 use Rattle.regular.proofs.Design.Laws as T′
 use Rattle.regular.proofs.BookAnswer as R
@@ -174,7 +174,7 @@ module _ {M : Type 1} (𝓤 : URA M) (H : Heap 𝓤) (A : Atoms 𝓤) (W : Given
 
     -- the loop's state: i, the bytes as they stand, the answer so far, and what is known of them
     abbrev Facts : ℕ → List ℕ → BookAnswer → Type 0
-    Facts i zs c = (i ≤ n) × ((length zs ≡ k) × (Is R.the-row c (told c ∷ []) × Progress w g r ys vs zs i (c .number) (c .count)))
+    Facts i zs c = (i ≤ n) × ((length zs ≡ k) × (Is R.the-row c (told c ∷ []) × BookSoFar w g r ys vs zs i (c .number) (c .count)))
 
     abbrev State : Type 0
     State = (i : ℕ) × ((zs : List ℕ) × ((c : BookAnswer) × Facts i zs c))
@@ -230,7 +230,7 @@ module _ {M : Type 1} (𝓤 : URA M) (H : Heap 𝓤) (A : Atoms 𝓤) (W : Given
         owned ! usize (Is usize) (uint-makes 𝓤 H A W w64) g _ (refl, g-fits) $ fjoin ! $ owned ! usize (Is usize) (uint-makes 𝓤 H A W w64) w _ (refl, w-fits) $ fjoin ! $ nothing ! $ move ! (2 ∷ 0 ∷ []) $ join ! $ frame ! $ done !
 
     -- the state after a turn
-    after : (u : State) (c : BookAnswer) (zs : List ℕ) → u .0 < n → Adds w g (getD ys (u .0) blank) (u .1 .1 .0 .number) (u .1 .1 .0 .count) (u .1 .0) zs (c .number) (c .count) → length zs ≡ length (u .1 .0) → Is R.the-row c (told c ∷ []) → State
+    after : (u : State) (c : BookAnswer) (zs : List ℕ) → u .0 < n → EntryAdded w g (getD ys (u .0) blank) (u .1 .1 .0 .number) (u .1 .1 .0 .count) (u .1 .0) zs (c .number) (c .count) → length zs ≡ length (u .1 .0) → Is R.the-row c (told c ∷ []) → State
     after (i, (zs, (c, (le, (len, (is, so)))))) c′ zs′ less e same is′ = (i + 1, (zs′, (c′, (add-one-le less, (same ∙ len, (is′, progress-more so e))))))
 
     module _ (𝓣 : Tables 𝓤 H) (known : Triple 𝓤 (𝓣 .C #book·add) (Add 𝓤 H A mem′ run)) (l₀ l₁ l₂ l₃ l₄ l₅ l₆ l₇ l₈ l₉ l₁₀ l₁₁ l₁₂ l₁₃ l₁₄ l₁₅ l₁₆ l₁₇ l₁₈ : ℕ) where
@@ -287,8 +287,8 @@ module _ {M : Type 1} (𝓤 : URA M) (H : Heap 𝓤) (A : Atoms 𝓤) (W : Given
           use2 W (raw (Add 𝓤 H A mem′ run .pre (to-add d c α zs γ′))) (goes-add d c is-d is zs (progress-room so less) α γ′) $
           calls-at ! (fmOf 𝓤 H (W .laws) 𝓣) (Add 𝓤 H A mem′ run) known (to-add d c α zs γ′) (and-then ! (load ! (from ! (stop !)) (look ! 41 refl)) (and-then ! (load ! (from ! (stop !)) (look ! 39 refl)) (and-then ! (load ! (from ! (stop !)) (look ! 25 refl)) (and-then ! (load ! (from ! (stop !)) (look ! 29 refl)) (and-then ! (load ! (from ! (stop !)) (look ! 7 refl)) (no-more !)))))) (λ v.
           use1 W (later (some (λ (u : BookAnswer). ((‵ (flft (α ∷ []) fullShare) ⊛ ‵ ftrue) ⊛ ‵ (R.the-row .own u (v ∷ [])))
-          ⊛ some (λ (ws : Lasts add.ended ((α ∷ []), tt) (add-args d c zs γ′)). ‵ (lasts add.ended ((α ∷ []), tt) (add-args d c zs γ′) ws) ⊛ raw (fact 𝓤 (Adds w g d (c .number) (c .count) zs (ws .1 .1 .1 .1 .0) (u .number) (u .count))))))) (id⊢ 𝓤 _) $ await ! tt $ pick ! (λ u.
-          split ! $ move ! (1 ∷ []) $ pick ! (λ ws. split ! $ move ! (1 ∷ []) $ heard ! (Adds w g d (c .number) (c .count) zs (ws .1 .1 .1 .1 .0) (u .number) (u .count)) (λ e₁.
+          ⊛ some (λ (ws : Lasts add.ended ((α ∷ []), tt) (add-args d c zs γ′)). ‵ (lasts add.ended ((α ∷ []), tt) (add-args d c zs γ′) ws) ⊛ raw (fact 𝓤 (EntryAdded w g d (c .number) (c .count) zs (ws .1 .1 .1 .1 .0) (u .number) (u .count))))))) (id⊢ 𝓤 _) $ await ! tt $ pick ! (λ u.
+          split ! $ move ! (1 ∷ []) $ pick ! (λ ws. split ! $ move ! (1 ∷ []) $ heard ! (EntryAdded w g d (c .number) (c .count) zs (ws .1 .1 .1 .1 .0) (u .number) (u .count)) (λ e₁.
           fsplit ! $ drop ! $ fsplit ! $ drop ! $ fsplit ! $ drop ! $ fsplit ! $ drop ! $ fsplit ! $ fsplit ! $ move ! (1 ∷ 2 ∷ []) $ drop ! $ drop ! $
           move ! (1 ∷ []) $ split ! $ split ! $ move ! (2 ∷ []) $ facts ! R.the-row (Is R.the-row) (shows 𝓤 H A R.the-row) u (v ∷ []) (λ is-u. move ! (1 ∷ []) $ drop ! $
           -- [the token; the last bytes; the lender's part; the fractured borrow; …; _18; …]
@@ -311,14 +311,14 @@ module _ {M : Type 1} (𝓤 : URA M) (H : Heap 𝓤) (A : Atoms 𝓤) (W : Given
       turns : (t : State) → Sq W (At t) (runs C Λ En m.turn-1 (anyQ (Turned t)))
       turns t = turn-by t (ltb (t .0) n) refl
 
-    start : (c : BookAnswer) (zs : List ℕ) → length zs ≡ k → Is R.the-row c (told c ∷ []) → Progress w g r ys vs zs 0 (c .number) (c .count) → State
+    start : (c : BookAnswer) (zs : List ℕ) → length zs ≡ k → Is R.the-row c (told c ∷ []) → BookSoFar w g r ys vs zs 0 (c .number) (c .count) → State
     start c zs len is so = (0, (zs, (c, (zero-le, (len, (is, so))))))
 
     module _ (𝓣 : Tables 𝓤 H) (judged : Triple 𝓤 (𝓣 .C #plan-lists·records-refusal) (Ref 𝓤 H A mem′ run)) (begun : Triple 𝓤 (𝓣 .C #book·begin) (Beg 𝓤 H A mem′ run)) (known : Triple 𝓤 (𝓣 .C #book·add) (Add 𝓤 H A mem′ run)) (l₀ l₁ l₂ l₃ l₄ l₅ l₆ l₇ l₈ l₉ l₁₀ l₁₁ l₁₂ l₁₃ l₁₄ l₁₅ l₁₆ l₁₇ l₁₈ : ℕ) where
       abbrev E : Env 𝓤 H
       E = En 𝓣 known l₀ l₁ l₂ l₃ l₄ l₅ l₆ l₇ l₈ l₉ l₁₀ l₁₁ l₁₂ l₁₃ l₁₄ l₁₅ l₁₆ l₁₇ l₁₈
 
-      looped : (c : BookAnswer) (zs : List ℕ) (len : length zs ≡ k) (is : Is R.the-row c (told c ∷ [])) (so : Progress w g r ys vs zs 0 (c .number) (c .count))
+      looped : (c : BookAnswer) (zs : List ℕ) (len : length zs ≡ k) (is : Is R.the-row c (told c ∷ [])) (so : BookSoFar w g r ys vs zs 0 (c .number) (c .count))
           → ent 𝓤 (⋆ 𝓤 H A (Ctx 𝓣 known l₀ l₁ l₂ l₃ l₄ l₅ l₆ l₇ l₈ l₉ l₁₀ l₁₁ l₁₂ l₁₃ l₁₄ l₁₅ l₁₆ l₁₇ l₁₈ 0 zs c)) (Wp 𝓤 H (𝓣 .C) (𝓣 .Λ) E m.t-7 (atReturn 𝓤 H E Post))
       unfolding start
       looped c zs len is so =
