@@ -98,7 +98,8 @@ begin-first : (total : ℕ) (all : ℕ → List ℕ) → Catalogue 4 3 3 total a
     → Equal 4 (entry i) (all i)
 begin-first total all c entry a i h =
     let e : i ≡ 0 = omega arith in
-    subst (λ (j : ℕ). Equal 4 (entry j) (all j)) (sym e) (equal-trans 4 (entry 0) abc (all 0) a (catalogue-unique 4 3 3 2 total both all catalogue-4 c .1 0 (omega arith)))
+    subst (λ (j : ℕ). Equal 4 (entry j) (all j)) (sym e)
+    (equal-trans 4 (entry 0) abc (all 0) a (catalogue-unique 4 3 3 2 total both all catalogue-4 c .1 0 (omega arith)))
 
 pub lists-nine : ListsBytes 4 1 3 (9 ∷ 9 ∷ 9 ∷ 9 ∷ 9 ∷ []) begun 9 1
 unfolding below
@@ -146,7 +147,8 @@ lists-designs = record {
   catalogues = record {
     lowest = accepted-room (λ k. k ≤ 3) (omega arith);
     whole = λ e. catalogue-like (λ i. getD (recordABC ∷ recordABCD ∷ blank ∷ []) i blank .columns)
-        (agree-at (λ f. getD abc f 0) (λ f. getD (recordABC .columns) f 0) 4 refl) (agree-at (λ f. getD abcd f 0) (λ f. getD (recordABCD .columns) f 0) 4 refl);
+        (agree-at (λ f. getD abc f 0) (λ f. getD (recordABC .columns) f 0) 4 refl)
+        (agree-at (λ f. getD abcd f 0) (λ f. getD (recordABCD .columns) f 0) 4 refl);
     fits = λ e. omega arith;
     begins = λ e. absurd (omega arith);
     none = λ h l. absurd (omega arith);
@@ -161,7 +163,8 @@ pub plans-wanted : (k : ℕ) → wantedPlansFaults 4 1 3 plans k → ⊥
 plans-wanted k f =
     ⊎-elim (plans-none k)
     (λ p. ⊎-elim (wanted-none k)
-    (λ q. each-plan (λ c. WantedFault 4 3 (planOf 4 3 c) k → ⊥) (long abcd (catalogue-4 .sound 1 (omega arith)) k) (long abc (catalogue-4 .sound 0 (omega arith)) k)
+    (λ q. each-plan (λ c. WantedFault 4 3 (planOf 4 3 c) k → ⊥)
+    (long abcd (catalogue-4 .sound 1 (omega arith)) k) (long abc (catalogue-4 .sound 0 (omega arith)) k)
     (q .0) (q .1 .0) (q .1 .1)) p) f
   where
     long : (c : List ℕ) → Entry 4 3 3 c → (k : ℕ) → WantedFault 4 3 (planOf 4 3 c) k → ⊥

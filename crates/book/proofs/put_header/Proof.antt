@@ -34,7 +34,8 @@ slice-write-out-4 : tie.Need-slice-write-out-4
 slice-write-out-4 c =
     let a = c .before .args in
     let v = a .out .now in
-    omega (arith, c .before .pre .4, length-set v 0 headerKind, length-set (set v 0 headerKind) 1 (a .n), length-set (set (set v 0 headerKind) 1 (a .n)) 2 (a .g))
+    let w = set v 0 headerKind in
+    omega (arith, c .before .pre .4, length-set v 0 headerKind, length-set w 1 (a .n), length-set (set w 1 (a .n)) 2 (a .g))
 
 cast-put-number : tie.Need-cast-put-number
 cast-put-number c = search needs
