@@ -50,11 +50,21 @@ module _ (n g r : ℕ) (plans : List ℕ) (ok : AcceptedPlans n g r plans) (v : 
   abbrev entry : ℕ → BookEntry
   entry i = entryOfColumns n g (planAt n plans i)
 
-  few : (i : ℕ) → i * n < length plans → i < length plans / n
-  few i h = by-cases (decLt i (length plans / n)) (λ l. l) (λ l. absurd (omega (arith, ok .multiple, mul-le-mul-right {m = length plans / n} {n = i} n (omega arith))))
+  abbrev planCount : ℕ
+  planCount = length plans / n
+
+  few : (i : ℕ) → i * n < length plans → i < planCount
+  few i h =
+      by-cases (decLt i planCount) (λ l. l) (λ l. absurd (omega (arith, ok .multiple, mul-le-mul-right {m = planCount} {n = i} n (omega arith))))
+
+  most : (i : ℕ) → i * n ≤ length plans → i ≤ planCount
+  most i h =
+      by-cases (decLt planCount i)
+      (λ l. absurd (omega (arith, ok .multiple, ok .bounds .size .some, suc-mul planCount n, mul-le-mul-right {m = suc planCount} {n = i} n l)))
+      (λ l. omega arith)
 
   there : (i : ℕ) → i * n < length plans → HasPlan n plans i
-  there i h = omega (arith, ok .multiple, mul-le-mul-right {m = suc i} {n = length plans / n} n (few i h))
+  there i h = omega (arith, ok .multiple, mul-le-mul-right {m = suc i} {n = planCount} n (few i h))
 
   pub plans-none : PlansWritten n g plans 0 v v headerLength
   plans-none = record { count = 0; place = omega arith; written = written-none n entry v }
@@ -85,31 +95,24 @@ module _ (n g r : ℕ) (plans : List ℕ) (ok : AcceptedPlans n g r plans) (v : 
 
     pub plans-room : at + entryLength n ≤ length w
     plans-room =
-        let i = x .count in
-        let l = few i inside in
-        omega (arith, x .written .place, entry-room n i (length plans / n) l, room, written-size (x .written) (omega (arith, entry-room n i (length plans / n) l, room)))
+        let more = entry-room n (x .count) planCount (few (x .count) inside) in
+        omega (arith, x .written .place, more, room, written-size (x .written) (omega (arith, more, room)))
 
   -- the length stays
   pub plans-size : {base at : ℕ} {w : List ℕ} → PlansWritten n g plans base v w at → base ≤ length plans → length w ≡ length v
-  plans-size {base} {at} {w} x h = written-size (x .written) (omega (arith, room, mul-le-mul-right {m = x .count} {n = length plans / n} (entryLength n) most))
-    where
-      most : x .count ≤ length plans / n
-      most =
-          by-cases (decLt (length plans / n) (x .count))
-          (λ l. absurd (omega (arith, x .place, ok .multiple, ok .bounds .size .some, suc-mul (length plans / n) n, mul-le-mul-right {m = suc (length plans / n)} {n = x .count} n l)))
-          (λ l. omega arith)
+  plans-size {base} {at} {w} x h =
+      let all = mul-le-mul-right {m = x .count} {n = planCount} (entryLength n) (most (x .count) (omega (arith, x .place))) in
+      written-size (x .written) (omega (arith, room, all))
 
   -- all of them
-  pub plans-all : {base at : ℕ} {w : List ℕ} → PlansWritten n g plans base v w at → base ≡ length plans → Written n entry (length plans / n) v w at
+  pub plans-all : {base at : ℕ} {w : List ℕ} → PlansWritten n g plans base v w at → base ≡ length plans → Written n entry planCount v w at
   plans-all {base} {at} {w} x e = subst (λ (k : ℕ). Written n entry k v w at) same (x .written)
     where
       some : 1 ≤ n
       some = ok .bounds .size .some
 
-      same : x .count ≡ length plans / n
+      same : x .count ≡ planCount
       same =
-          by-cases (decLt (x .count) (length plans / n))
-          (λ h. absurd (omega (arith, x .place, ok .multiple, suc-mul (x .count) n, mul-le-mul-right {m = suc (x .count)} {n = length plans / n} n h)))
-          (λ h. by-cases (decLt (length plans / n) (x .count))
-          (λ l. absurd (omega (arith, x .place, ok .multiple, suc-mul (length plans / n) n, mul-le-mul-right {m = suc (length plans / n)} {n = x .count} n l)))
-          (λ l. omega arith))
+          by-cases (decLt (x .count) planCount)
+          (λ h. absurd (omega (arith, x .place, ok .multiple, suc-mul (x .count) n, mul-le-mul-right {m = suc (x .count)} {n = planCount} n h)))
+          (λ h. omega (arith, most (x .count) (omega (arith, x .place))))
