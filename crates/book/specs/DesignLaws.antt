@@ -35,9 +35,9 @@ pub record BookSoFar (n g r : ℕ) (list : List Design) (v w : List ℕ) (i numb
   pub refused : 0 < number → (used ≡ at) × (w ≡ start)
   pub going : number ≡ 0 → Written n (recordEntry n g list) i start w used
 
-pub progress-start : {n g r first number used : ℕ} {list : List Design} {v w : List ℕ} → Lowest (wantedRecordsFaults n g r list) first
+pub so-far-start : {n g r first number used : ℕ} {list : List Design} {v w : List ℕ} → Lowest (wantedRecordsFaults n g r list) first
     → Opened n g r (length list) first v w number used → BookSoFar n g r list v w 0 number used
-progress-start {n} {g} {r} {first} {number} {used} {list} {v} {w} own b = record {
+so-far-start {n} {g} {r} {first} {number} {used} {list} {v} {w} own b = record {
   first = first;
   own = own;
   start = w;
@@ -54,14 +54,14 @@ module _ {n g r : ℕ} {list : List Design} {v w : List ℕ} {i number used : �
       records-accepted n g r list (subst (Lowest (wantedRecordsFaults n g r list)) z (x .own))
 
   -- there is room for one more entry
-  pub progress-room : i < length list → number ≡ 0 → Lowest (designFaults n g (getD list i blank)) 0 × (used + entryLength n ≤ length w)
-  progress-room h e =
+  pub so-far-room : i < length list → number ≡ 0 → Lowest (designFaults n g (getD list i blank)) 0 × (used + entryLength n ≤ length w)
+  so-far-room h e =
       let room = begun-room (x .begins) e in
       let more = entry-room n i (length list) h in
       (accepted e .plan i h, omega (arith, x .going e .place, more, room, written-size (x .going e) (omega (arith, more, room))))
 
-  pub progress-more : {w' : List ℕ} {k to : ℕ} → EntryAdded n g (getD list i blank) number used w w' k to → BookSoFar n g r list v w' (i + 1) k to
-  progress-more {w'} {k} {to} a =
+  pub so-far-more : {w' : List ℕ} {k to : ℕ} → EntryAdded n g (getD list i blank) number used w w' k to → BookSoFar n g r list v w' (i + 1) k to
+  so-far-more {w'} {k} {to} a =
       by-cases (ℕ-discrete number 0)
       (λ e. let p = a .added e in record {
         first = x .first;
@@ -82,8 +82,8 @@ module _ {n g r : ℕ} {list : List Design} {v w : List ℕ} {i number used : �
         going = λ e. absurd (ne (sym (p .0) ∙ e));
       })
 
-  pub progress-end : i ≡ length list → WritesDesigns n g r list v w number used
-  progress-end e =
+  pub so-far-end : i ≡ length list → WritesDesigns n g r list v w number used
+  so-far-end e =
       by-cases (ℕ-discrete number 0)
       (λ z. subst (λ (m : ℕ). WritesDesigns n g r list v w m used) (sym z)
       (writes-book (records-most n g r list) (x .own) (x .begins) z

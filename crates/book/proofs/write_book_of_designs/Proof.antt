@@ -64,7 +64,7 @@ use Rattle.regular.specs.Refusals.{Lowest, designFaults}
 use Rattle.regular.specs.PlanLists.{wantedRecordsFaults}
 use Rattle.regular.specs.Book.{entryLength, WritesDesigns}
 use Rattle.book.specs.Writing.{Opened, EntryAdded}
-use Rattle.book.specs.DesignLaws.{BookSoFar, records-bounds, progress-start, progress-room, progress-more, progress-end}
+use Rattle.book.specs.DesignLaws.{BookSoFar, records-bounds, so-far-start, so-far-room, so-far-more, so-far-end}
 use Rattle.regular.proofs.Design as T
 use Rattle.regular.proofs.Design.Laws as T′
 use Rattle.regular.proofs.BookAnswer as R
@@ -283,7 +283,7 @@ module _ {M : Type 1} (𝓤 : URA M) (H : Heap 𝓤) (A : Atoms 𝓤) (W : Given
     -- the state after a turn
     after : (u : State) (c : BookAnswer) (zs : List ℕ) → u .0 < n → Puts (getD ys (u .0) blank) (u .1 .1 .0) (u .1 .0) zs c → length zs ≡ length (u .1 .0)
         → Is R.the-row c (told c ∷ []) → State
-    after (i, (zs, (c, (le, (len, (is, so)))))) c′ zs′ less e same is′ = (i + 1, (zs′, (c′, (add-one-le less, (same ∙ len, (is′, progress-more so e))))))
+    after (i, (zs, (c, (le, (len, (is, so)))))) c′ zs′ less e same is′ = (i + 1, (zs′, (c′, (add-one-le less, (same ∙ len, (is′, so-far-more so e))))))
 
     -- what the function is handed: the tokens of both lifetimes, and what its arguments own
     abbrev Handed : List (Item 𝓤)
@@ -365,7 +365,7 @@ module _ {M : Type 1} (𝓤 : URA M) (H : Heap 𝓤) (A : Atoms 𝓤) (W : Given
           await ! tt $ pick ! (λ γ′. split ! $
           rewrite ! 0 (λ (m : ℕ). ‵ (Lent α γ′ zs m)) len refl $ move ! (2 ∷ 0 ∷ []) $
           -- [the token; the slice; the lender's part; the fractured borrow; …; _18; …]
-          use2 W (raw (Add 𝓤 H A mem′ run .pre (to-add d c α zs γ′))) (goes-add d c is-d is zs (progress-room so less) α γ′) $
+          use2 W (raw (Add 𝓤 H A mem′ run .pre (to-add d c α zs γ′))) (goes-add d c is-d is zs (so-far-room so less) α γ′) $
           calls-at ! (fmOf 𝓤 H (W .laws) 𝓣) (Add 𝓤 H A mem′ run) known (to-add d c α zs γ′)
           (and-then ! (load ! (from ! (stop !)) (look ! 41 refl))
           (and-then ! (load ! (from ! (stop !)) (look ! 39 refl))
@@ -408,7 +408,7 @@ module _ {M : Type 1} (𝓤 : URA M) (H : Heap 𝓤) (A : Atoms 𝓤) (W : Given
           move ! (25 ∷ 26 ∷ []) $ free1 ! $ move ! (23 ∷ 24 ∷ []) $ free1 ! $ move ! (21 ∷ 22 ∷ []) $ free1 ! $ move ! (19 ∷ 20 ∷ []) $ free1 ! $
           move ! (17 ∷ 18 ∷ []) $ free1 ! $ move ! (15 ∷ 16 ∷ []) $ free1 ! $ move ! (13 ∷ 14 ∷ []) $ free1 ! $ move ! (11 ∷ 12 ∷ []) $ free1 ! $
           move ! (9 ∷ 10 ∷ []) $ free1 ! $ move ! (7 ∷ 8 ∷ []) $ free1 ! $ move ! (5 ∷ 6 ∷ []) $ free1 ! $ free0 ! $
-          keep ! (0 ∷ 1 ∷ 2 ∷ 4 ∷ 5 ∷ []) $ by ! (exits c zs is len (progress-end so (le-antisymm le (ltb-false i n e))))
+          keep ! (0 ∷ 1 ∷ 2 ∷ 4 ∷ 5 ∷ []) $ by ! (exits c zs is len (so-far-end so (le-antisymm le (ltb-false i n e))))
 
       turns : (t : State) → Sq W (At t) (runs C Λ En m.turn-1 (anyQ (Turned t)))
       turns t = turn-by t (ltb (t .0) n) refl
@@ -482,7 +482,7 @@ module _ {M : Type 1} (𝓤 : URA M) (H : Heap 𝓤) (A : Atoms 𝓤) (W : Given
           forget ! 19 refl $ forget ! 21 refl $ forget ! 23 refl $ forget ! 31 refl $
           keep ! (0 ∷ 1 ∷ 2 ∷ 3 ∷ 4 ∷ 5 ∷ 7 ∷ 8 ∷ 9 ∷ 10 ∷ 11 ∷ 12 ∷ 13 ∷ 14 ∷ 15 ∷ 16 ∷ 17 ∷ 18 ∷ 19 ∷ 20 ∷ 21 ∷ 22 ∷ 23 ∷ 24 ∷ 25 ∷ 26 ∷ 27 ∷ 28 ∷ 29 ∷ 30
           ∷ 31 ∷ 32 ∷ 33 ∷ 34 ∷ 35 ∷ 36 ∷ 37 ∷ 38 ∷ 39 ∷ 40 ∷ 41 ∷ 42 ∷ 43 ∷ 44 ∷ 6 ∷ []) $
-          by ! (looped u (ws .1 .1 .1 .1 .1 .0) same (is-told u v is-u) (progress-start low e))))))))))
+          by ! (looped u (ws .1 .1 .1 .1 .1 .0) same (is-told u v is-u) (so-far-start low e))))))))))
 
       abbrev Opening : List (Item 𝓤)
       Opening = Spare l₉ l₁₀ l₁₁ l₁₂ l₁₃ l₁₄ l₁₅ l₁₆ l₁₇ l₁₈ (‵ (froom word l₈ 0) ∷ ‵ (fdies word l₈)
