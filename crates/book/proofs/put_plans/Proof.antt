@@ -102,9 +102,11 @@ loop-again c =
     let d = r .before in
     let t = turn p in
     let s = start t in
-    let a = s .args in
-    (plans-more (a .n) (a .g) (s .pre .0 .0) (a .plans .now) (s .pre .0 .1) (a .out .now) (s .pre .1) (t .before .loop .inv .0) (t .loop-test .taken)
-    (is-part t) (r .array-of .ensures) (d .admit-columns .ensures) (p .put-plan .ensures), end t)
+    let a = s .args in (
+      plans-more (a .n) (a .g) (s .pre .0 .0) (a .plans .now) (s .pre .0 .1) (a .out .now) (s .pre .1) (t .before .loop .inv .0) (t .loop-test .taken)
+          (is-part t) (r .array-of .ensures) (d .admit-columns .ensures) (p .put-plan .ensures),
+      end t,
+    )
 
 same-length : tie.Need-same-length Inv-loop μ-loop
 same-length c =

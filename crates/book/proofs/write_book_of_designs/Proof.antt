@@ -88,8 +88,13 @@ use Rattle.book.proofs.write_book_of_designs.Code as code
 use Rattle.book.proofs.write_book_of_designs.Code.Mir as m
 
 abbrev stayed : Stays (f.ended .signature .params) (f.ended .kept)
-stayed = (stay-none (λ _. usize) yes, (stay-none (λ _. usize) yes,
-    (stay-none (λ _. usize) yes, (stay-none-slice (0 ∷ []) tt (plain (λ _. T.the-row)) yes, (stay-slice (1 ∷ []) tt (plain (λ _. u8)), tt)))))
+stayed = (
+  stay-none (λ _. usize) yes,
+  (
+    stay-none (λ _. usize) yes,
+    (stay-none (λ _. usize) yes, (stay-none-slice (0 ∷ []) tt (plain (λ _. T.the-row)) yes, (stay-slice (1 ∷ []) tt (plain (λ _. u8)), tt))),
+  ),
+)
 
 abbrev word : Ty
 word = tyInt w64
@@ -553,8 +558,13 @@ module _ {M : Type 1} (𝓤 : URA M) (H : Heap 𝓤) (A : Atoms 𝓤) (W : Given
       → Walks 𝓤 H A f.ended stayed (WpFn 𝓤 H (𝓣 .C) (𝓣 .Λ) code.function) (f.clauses 𝓤 H A mem′ run)
   writer-walks judged begun known = walked 𝓤 H A f.ended stayed (f.clauses 𝓤 H A mem′ run) (WpFn 𝓤 H (𝓣 .C) (𝓣 .Λ) code.function)
       (λ κs. (uint-vals w64, (uint-vals w64, (uint-vals w64, (slice-vals, (slice-vals, tt))))))
-      (λ κs. (uint-tells w64, (uint-tells w64,
-      (uint-tells w64, (shr-slice-tells (named 0) (κs .0) T.the-row, (mut-slice-tells (named 1) (κs .1 .0) u8, tt))))))
+      (λ κs. (
+        uint-tells w64,
+        (
+          uint-tells w64,
+          (uint-tells w64, (shr-slice-tells (named 0) (κs .0) T.the-row, (mut-slice-tells (named 1) (κs .1 .0) u8, tt))),
+        ),
+      ))
       (λ κs qs bounds a g are. via 𝓤 _ (fst∗ 𝓤 _ (emp 𝓤))
       (walk 𝓤 H A W mem′ run (κs .0) (κs .1 .0) (qs .0) (qs .1 .0) (a .1 .1 .1 .0 .ptr .0) (a .1 .1 .1 .0 .ptr .1) (a .1 .1 .1 .1 .0 .ptr .0)
       (a .1 .1 .1 .1 .0 .ptr .1) (a .1 .1 .1 .0 .name) (a .1 .1 .1 .1 .0 .name) (a .0) (a .1 .0) (a .1 .1 .0)
@@ -564,11 +574,16 @@ module _ {M : Type 1} (𝓤 : URA M) (H : Heap 𝓤) (A : Atoms 𝓤) (W : Given
   writer-meets : Judging 𝓤 H A mem′ run 𝓣 → Beginning 𝓤 H A mem′ run 𝓣 → Adding 𝓤 H A mem′ run 𝓣
       → Meets 𝓤 H A f.signature (WpFn 𝓤 H (𝓣 .C) (𝓣 .Λ) code.function) (f.spec 𝓤 H A mem′ run)
   writer-meets judged begun known =
-      walk-meets 𝓤 H A f.ended stayed W
-      (goes-none 𝓤 H A W 2 (λ _. usize) yes (λ κs x f. refl),
-      (goes-none 𝓤 H A W 2 (λ _. usize) yes (λ κs x f. refl),
-      (goes-none 𝓤 H A W 2 (λ _. usize) yes (λ κs x f. refl),
-      (goes-none-slice 𝓤 H A W 2 (0 ∷ []) tt (plain (λ _. T.the-row)) yes, (goes-slice 𝓤 H A W 2 1 tt (plain (λ _. u8)), tt)))))
+      walk-meets 𝓤 H A f.ended stayed W (
+        goes-none 𝓤 H A W 2 (λ _. usize) yes (λ κs x f. refl),
+        (
+          goes-none 𝓤 H A W 2 (λ _. usize) yes (λ κs x f. refl),
+          (
+            goes-none 𝓤 H A W 2 (λ _. usize) yes (λ κs x f. refl),
+            (goes-none-slice 𝓤 H A W 2 (0 ∷ []) tt (plain (λ _. T.the-row)) yes, (goes-slice 𝓤 H A W 2 1 tt (plain (λ _. u8)), tt)),
+          ),
+        ),
+      )
       (f.clauses 𝓤 H A mem′ run) (WpFn 𝓤 H (𝓣 .C) (𝓣 .Λ) code.function) (WpFn-mono 𝓤 H (W .laws) 𝓣 code.function) (writer-walks judged begun known)
 
 pub write-book-of-designs-spec : {M : Type 1} → stated.statement M
