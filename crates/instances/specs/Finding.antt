@@ -11,9 +11,11 @@ use Rattle.gf2.specs.Fill.{zeros}
 use Rattle.gf2.specs.Lists.{listTo}
 use Rattle.gf2.specs.Members.{In}
 use Rattle.gf2.specs.Vec.{vec}
-use Rattle.regular.specs.Columns.{planOf}
+use Rattle.column_tables.specs.Tables.{Tables, Presence}
+use Rattle.column_tables.specs.FactorSets.{On, off}
+use Rattle.regular.specs.Columns.{planOf, Column}
 use Rattle.regular.specs.Smallest.{Rising}
-use Rattle.isomorphism_laws.specs.Link.{Units, Column}
+use Rattle.isomorphism_laws.specs.Link.{Units}
 use Rattle.isomorphism_laws.specs.Masks.{plan-within}
 use Rattle.isomorphism_laws.specs.Match.{Match}
 use Rattle.isomorphism_laws.specs.Match as matched
@@ -21,9 +23,8 @@ use Rattle.isomorphism_laws.specs.Renamings.{kept}
 use Rattle.isomorphism_laws.specs.SamePlan.{carries-refl}
 use Rattle.smallest_laws.specs.Pulled.{pulled}
 use Rattle.smallest_laws.specs.UnitForms.{rising-distinct}
-use Rattle.search.specs.Search.{On, Picks, Free, Alike, Placed, Tables, Presence}
+use Rattle.search.specs.Search.{Picks, Free, Alike, Placed}
 use Rattle.search.specs.Steps.{Block, Blocks, HasUnits, Low, Left, At, Own, Scanning, Going}
-use Rattle.search.specs.Masks.{off}
 use Rattle.smallest_test_laws.specs.Above.{Above}
 use Rattle.smallest_test_laws.specs.Branches.{Identity}
 use Rattle.smallest_test_laws.specs.Later.{AllLater, later-none}
