@@ -11,19 +11,19 @@ use Rattle.gf2.specs.Fill.{zeros}
 use Rattle.gf2.specs.Lists.{listTo}
 use Rattle.gf2.specs.Members.{In}
 use Rattle.gf2.specs.Vec.{vec}
-use Rattle.regular.specs.Columns.{planOf}
+use Rattle.column_tables.specs.Tables.{Tables, Presence, Present}
+use Rattle.column_tables.specs.FactorSets.{On, off}
+use Rattle.regular.specs.Columns.{planOf, Column}
 use Rattle.regular.specs.Smallest.{Rising}
-use Rattle.isomorphism_laws.specs.Link.{Units, Column}
+use Rattle.isomorphism_laws.specs.Link.{Units}
 use Rattle.isomorphism_laws.specs.Masks.{plan-within}
-use Rattle.isomorphism_laws.specs.Match.{Match}
-use Rattle.isomorphism_laws.specs.Match as matched
+use Rattle.isomorphism_laws.specs.Match.{Match, Alike}
 use Rattle.isomorphism_laws.specs.Renamings.{kept}
 use Rattle.isomorphism_laws.specs.SamePlan.{carries-refl}
 use Rattle.smallest_laws.specs.Pulled.{pulled}
 use Rattle.smallest_laws.specs.UnitForms.{rising-distinct}
-use Rattle.search.specs.Search.{On, Picks, Free, Alike, Placed, Tables, Presence}
-use Rattle.search.specs.Steps.{Block, Blocks, HasUnits, Low, Left, At, Own, Scanning, Going}
-use Rattle.search.specs.Masks.{off}
+use Rattle.search.specs.Search.{Picks, PlacedImages}
+use Rattle.search.specs.Steps.{Block, Blocks, HasUnits, BlockBelow, Left, Completes, OwnColumns, Scanning, SearchFrom}
 use Rattle.smallest_test_laws.specs.FairMasks.{FairMasks, allFactors, all-factors, all-picks, all-fair}
 use Rattle.smallest_test_laws.specs.Above.{Above}
 use Rattle.smallest_test_laws.specs.Branches.{Identity}
@@ -55,20 +55,23 @@ pub blocks-1 : Blocks marks 1 (1 ∷ replicate 7 0)
 blocks-1 = first (λ d. Block marks (2 ^ d) (2 ^ d) (getD (1 ∷ replicate 7 0) d 0)) block-1
 
 -- the table `marks` holds 0 and 1 at their places: the image of the column 1 is 1
-pub low-1 : Low 1 marks 1
+pub low-1 : BlockBelow 1 marks 1
 low-1 = member (λ k. (k < 64) × (getD marks (1 + k) 0 < 128)) (omega arith, omega arith)
 
-pub own-1 : Own sums marks 1
+pub own-1 : OwnColumns sums marks 1
 own-1 i o = o
 
+pub present-1 : Present marks 1
+present-1 e = omega (arith, e)
+
 pub has-units-1 : HasUnits marks 1
-has-units-1 = first (λ d. getD marks (2 ^ d) 0 ≡ 0 → ⊥) (λ e. omega arith)
+has-units-1 = first (λ d. Present marks (2 ^ d)) present-1
 
 pub columns-some-1 : (i : ℕ) → i < 1 → 0 < getD column i 0
 columns-some-1 = first (λ i. 0 < getD column i 0) (omega arith)
 
 -- the search from no image on, and its scan of the place 1
-pub going-1 : Going marks (1 ∷ replicate 7 0) column marks sums 1 1 0 1 (replicate 128 0)
+pub going-1 : SearchFrom marks (1 ∷ replicate 7 0) column marks sums 1 1 0 1 (replicate 128 0)
 going-1 = record {
   most = omega arith;
   few = omega arith;
@@ -79,13 +82,16 @@ going-1 = record {
   small = first (λ k. getD (replicate 128 0) k 0 < 128) (omega arith);
   units = has-units-1;
   blocks = blocks-1;
-  factors = member (λ i. i < 1) (omega arith);
+  within = member (λ i. i < 1) (omega arith);
 }
 
-pub images-1 : Placed marks column (replicate 8 65535) 1 0 (replicate 128 0) []
-unfolding Picks Free vec
+pub images-1 : PlacedImages marks column (replicate 8 65535) 1 0 (replicate 128 0) []
+unfolding Picks vec
 images-1 = record {
-  even = record { count = refl; picks = tt; free = λ k p l. absurd (omega arith); alike = λ k p l. absurd (omega arith) };
+  even = record {
+    match = record { count = refl; columns = λ z i. absurd i; free = λ k l _. omega arith; alike = λ k p l. absurd (omega arith) };
+    picks = tt;
+  };
   filled = first (λ k. getD (replicate 128 0) k 0 ≡ vec [] k) refl;
 }
 
@@ -94,7 +100,7 @@ left-1 = record { sub = λ i o. (o, first (λ j. On i (getD marks (getD (replica
 
 pub scanning-1 : Scanning true marks sums (replicate 128 0) 1 1 1 1
 scanning-1 = record {
-  sub = λ i o. (o, first (λ j. Alike marks (1 + j) (At sums (replicate 128 0) i j)) ((λ e _. omega arith), (λ _. o)));
+  sub = λ i o. (o, first (λ j. Alike (Present marks (1 + j)) (Completes sums (replicate 128 0) i j)) (record { into = λ _. o; onto = λ _ e. omega arith }));
   cut = λ i o. inl o;
 }
 
@@ -127,7 +133,7 @@ not-three c = by-cases (ℕ-discrete (c .0) 0)
     (λ z. omega (arith, sym (ap (λ (f : ℕ). getD pair f 0) z) ∙ c .1 .1))
     (λ ne. let o : c .0 ≡ 1 = omega (arith, c .1 .0) in omega (arith, sym (ap (λ (f : ℕ). getD pair f 0) o) ∙ c .1 .1))
 
-exchanged : Match 2 2 pair pair pair
+exchanged : Match (Column 2 pair) 2 2 pair pair
 unfolding vec
 exchanged = record { count = refl; columns = columns; free = free; alike = alike }
   where
@@ -141,7 +147,7 @@ exchanged = record { count = refl; columns = columns; free = free; alike = alike
     free (suc (suc (suc zero))) l e = absurd (omega arith)
     free (suc (suc (suc (suc k)))) l e = absurd (omega arith)
 
-    alike : (k : ℕ) → 0 < k → k < 4 → matched.Alike 2 pair pair pair k
+    alike : (k : ℕ) → 0 < k → k < 4 → Alike (Column 2 pair k) (Column 2 pair (vec pair k))
     alike zero p l = absurd (omega arith)
     alike (suc zero) p l = record { into = λ _. (1, (omega arith, refl)); onto = λ _. (0, (omega arith, refl)) }
     alike (suc (suc zero)) p l = record { into = λ _. (0, (omega arith, refl)); onto = λ _. (1, (omega arith, refl)) }

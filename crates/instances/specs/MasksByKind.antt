@@ -7,7 +7,8 @@ use native.Mathlib.Omega.{arith}
 use lib.ListN.{getD, replicate}
 use Rattle.isomorphism_laws.specs.Link.{Units}
 use Rattle.regular.specs.Columns.{Below}
-use Rattle.search.specs.Search.{On, Pick, Picks}
+use Rattle.column_tables.specs.FactorSets.{On}
+use Rattle.search.specs.Search.{Pick, Picks}
 use Rattle.smallest_test_laws.specs.FairMasks.{Automorphism, FairMasks, all-factors}
 use Rattle.smallest_test_laws.specs.KindMasks.{Kinds, KindMasks, kinds-fair}
 use Rattle.instances.specs.Searching.{one-on}

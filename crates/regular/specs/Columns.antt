@@ -22,6 +22,10 @@ planOf n m c x = (j : ℕ) × ((j < 2 ^ m) × (x ≡ runOf c n j))
 abbrev pub Below : ℕ → ℕ → List ℕ → Type 0
 Below n m c = (f : ℕ) → f < n → getD c f 0 < 2 ^ m
 
+-- v is one of the first n columns
+abbrev pub Column : ℕ → List ℕ → ℕ → Type 0
+Column n c v = (f : ℕ) × ((f < n) × (getD c f 0 ≡ v))
+
 -- the columns have rank m: every number of m bits is the exclusive-or of some of them
 abbrev pub Spans : ℕ → ℕ → List ℕ → Type 0
 Spans n m c = (v : ℕ) → v < 2 ^ m → (w : ℕ) × ((w < 2 ^ n) × (total c n w ≡ v))

@@ -15,9 +15,10 @@ use Rattle.gf2.specs.Counts.{Count}
 use Rattle.gf2.specs.Digits.{odd}
 use Rattle.gf2.specs.Lists.{listTo}
 use Rattle.gf2.specs.Truth.{clash}
+use Rattle.isomorphism_laws.specs.MatchLaws.{match-carries, carries-match}
 use Rattle.regular.specs.Runs.{runsOf}
 use Rattle.regular.specs.Words.{Word, Generated}
-use Rattle.regular.specs.Columns.{planOf, runOf, Below}
+use Rattle.regular.specs.Columns.{planOf, runOf, Below, Column}
 use Rattle.regular.specs.Pattern.{Distances}
 use Rattle.regular.specs.RefusalLaws.{Lower}
 use Rattle.regular.specs.Same.{moved, Within, Carries}
@@ -28,7 +29,7 @@ use Rattle.words.specs.Switches.{agree-sym, distances-agree}
 use Rattle.counts.specs.Distances.{distances-any-run}
 use Rattle.counts.specs.PlanCounts.{plan-words}
 use Rattle.isomorphism_laws.specs.Masks.{plan-within}
-use Rattle.isomorphism_laws.specs.Match.{Match, Places, carries-match, match-carries}
+use Rattle.isomorphism_laws.specs.Match.{Match, Places}
 use Rattle.isomorphism_laws.specs.SamePlan.{carries-agree}
 use Rattle.smallest_laws.specs.Value.{value, value-same}
 use Rattle.catalogue_laws.specs.Demand.{plan-runs}
@@ -80,10 +81,10 @@ carries-bcd =
     (agree-sym (planOf 4 3 abc) (runsOf runsABC) (plan-runs 4 3 abc)) (agree-sym (planOf 4 3 bcd) (runsOf (runTable 4 3 bcd)) (plan-runs 4 3 bcd))
     (carried-witness 4 runsABC (runTable 4 3 bcd) (1 ∷ 2 ∷ 3 ∷ 0 ∷ []) 0 refl .carries)
 
-pub match-bcd : (t : List ℕ) × (Match 3 4 abc bcd t × Places 4 abc bcd t (1 ∷ 2 ∷ 3 ∷ 0 ∷ []))
+pub match-bcd : (t : List ℕ) × (Match (Column 4 abc) 3 4 bcd t × Places 4 abc bcd t (1 ∷ 2 ∷ 3 ∷ 0 ∷ []))
 match-bcd = carries-match 4 3 abc bcd below-abc below-bcd (1 ∷ 2 ∷ 3 ∷ 0 ∷ []) 0 units-abc carries-bcd
 
-pub no-match : (t : List ℕ) → Match 3 4 abc abcd t → ⊥
+pub no-match : (t : List ℕ) → Match (Column 4 abc) 3 4 abcd t → ⊥
 no-match t h =
     let r = match-carries 4 3 abc abcd below-abc (catalogue-4 .sound 1 (omega arith) .smallest .columns .below) t distinct-abc h in
     different-abc-abcd (record { names = r .0; mask = 0; carries = r .1 })

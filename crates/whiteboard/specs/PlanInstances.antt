@@ -16,7 +16,7 @@ use Rattle.gf2.specs.Lists.{listTo}
 use Rattle.regular.specs.Sizes.{Size, Sized}
 use Rattle.regular.specs.Runs.{runsOf, switched, Regular, Table}
 use Rattle.regular.specs.Words.{Word, NoShort, Generated, total, Independent, Last, Reduced}
-use Rattle.regular.specs.Columns.{runOf, planOf, Below, Spans, Listed, RunTable, Basic, StandardColumns, RunsOfPlan}
+use Rattle.regular.specs.Columns.{runOf, planOf, Below, Column, Spans, Listed, RunTable, Basic, StandardColumns, RunsOfPlan}
 use Rattle.regular.specs.Pattern.{Pattern, sumTo, Resolution, Distances, Better, LessAberration, ofLength}
 use Rattle.regular.specs.Designs.{Holds}
 use Rattle.regular.specs.Comparisons.{Witness}
@@ -134,6 +134,14 @@ not-run p = omega (arith, word-abc .constant 1 5 p run-abc)
 
 pub below-abc : Below 4 3 abc
 below-abc = catalogue-4 .sound 0 (omega arith) .smallest .columns .below
+
+-- 3 is a column, 5 is none
+pub column-abc : Column 4 abc 3
+column-abc = (2, (omega arith, refl))
+
+pub not-column : Column 4 abc 5 → ⊥
+unfolding below
+not-column c = omega (arith, c .1 .1, ltb-true (getD abc (c .0) 0) 5 (below-at (λ i. ltb (getD abc i 0) 5) 4 refl (c .0) (c .1 .0)))
 
 pub spans-abc : Spans 4 3 abc
 spans-abc = catalogue-4 .sound 0 (omega arith) .smallest .columns .rank
