@@ -1,26 +1,26 @@
 -- Laws of the entries: one plan of the bytes more, one record more, and the room that each has.
-use Prim.Native.Nat.{ℕ, suc, _+_, _*_, _-_, _/_, _≤_, _<_}
-use mathlib.Core.Path.{_≡_, sym, ap, subst, _∙_}
-use mathlib.Core.Logic.{by-cases}
+use Prim.Native.Nat.{ℕ, _+_, _-_, _≤_, _<_}
+use mathlib.Core.Path.{_≡_, subst}
 use mathlib.Core.List.{List}
-use native.Mathlib.Decide.{decLt}
-use native.Mathlib.Nat.{suc-mul, mul-le-mul-right}
-use native.Mathlib.Numerals.{add-one}
+use native.Mathlib.Nat.{mul-le-mul-right}
 use native.Mathlib.Omega.{arith}
-use lib.ListN.{length, getD, take, drop}
+use lib.ListN.{length}
 use Rattle.regular.specs.Columns.{planOf}
 use Rattle.regular.specs.Pattern.{Pattern}
 use Rattle.regular.specs.Refusals.{Lowest, columnsFaults}
 use Rattle.regular.specs.RefusalLaws.{lowest-unique}
-use Rattle.regular.specs.PlanLists.{planAt, HasPlan, wantedPlansFaults}
+use Rattle.regular.specs.PlanBytes.{planAt, planCount}
+use Rattle.regular.specs.PlanLists.{wantedPlansFaults}
+use Rattle.regular.specs.Smallest.{Equal}
 use Rattle.regular.specs.Given.{Given, ofColumns}
 use Rattle.regular.specs.declared.Admitted.{Admitted}
 use Rattle.admission.specs.Admission.{Admission, Ready, ready}
 use Rattle.measures.specs.Measured.{pattern-given}
+use Rattle.plan_layout.specs.Places.{count-held}
 use Rattle.plan_lists.specs.Accepted.{AcceptedPlans, plans-accepted}
-use Rattle.regular.specs.Book.{bookLength, headerLength}
-use Rattle.book.specs.Writing.{entryLength, PutEntry, Written, PlansWritten}
-use Rattle.book.specs.WritingLaws.{columns-same, written-none, written-more, written-size, entry-room}
+use Rattle.regular.specs.Book.{bookLength}
+use Rattle.book.specs.Writing.{entryLength, PutEntry, Written}
+use Rattle.book.specs.WritingLaws.{columns-same, written-more, written-size, entry-room}
 
 -- a plan without faults is admitted
 module _ {n g : ℕ} {p : Given} {x : Admitted} (l : Lowest (p .faults) 0) (ad : Admission n g p x) where
@@ -45,67 +45,28 @@ plans-bounds n g r number plans l e =
     (b .size .most, omega (arith, b .size .less, b .size .most), b .high)
 
 -- plans as bytes, the book of which has room in v
-module _ (n g r : ℕ) (plans : List ℕ) (ok : AcceptedPlans n g r plans) (v : List ℕ) (room : bookLength n (length plans / n) ≤ length v) where
-  few : (i : ℕ) → i * n < length plans → i < length plans / n
-  few i h = by-cases (decLt i (length plans / n)) (λ l. l) (λ l. absurd (omega (arith, ok .multiple, mul-le-mul-right {m = length plans / n} {n = i} n (omega arith))))
+module _ (n g r : ℕ) (plans : List ℕ) (ok : AcceptedPlans n g r plans) (v : List ℕ) (room : bookLength n (planCount n (length plans)) ≤ length v) where
+  -- one plan more, which has no fault
+  module _ {i at : ℕ} {w : List ℕ} (x : Written n g (planAt n plans) i v w at) (h : i < planCount n (length plans)) where
+    plans-lowest : Lowest (columnsFaults n g (planAt n plans i)) 0
+    plans-lowest = ok .plan i (count-held n (length plans) i h)
 
-  there : (i : ℕ) → i * n < length plans → HasPlan n plans i
-  there i h = omega (arith, ok .multiple, mul-le-mul-right {m = suc i} {n = length plans / n} n (few i h))
+    module _ {plan : List ℕ} {a : Admitted} (e : plan ≡ planAt n plans i) (ad : Admission n g (ofColumns n g plan) a) where
+      plans-admitted : Admission n g (ofColumns n g (planAt n plans i)) a
+      plans-admitted = subst (λ (l : List ℕ). Admission n g (ofColumns n g l) a) e ad
 
-  pub plans-none : PlansWritten n g plans 0 v v headerLength
-  plans-none = record { count = 0; place = omega arith; written = written-none n g (planAt n plans) v }
+      pub plans-ready : Ready n g (a .columns)
+      plans-ready = admitted-ready plans-lowest plans-admitted
 
-  module _ {base at : ℕ} {w : List ℕ} (x : PlansWritten n g plans base v w at) (h : base < length plans) where
-    inside : x .count * n < length plans
-    inside = omega (arith, x .place)
-
-    pub plans-end : base + n ≤ length plans
-    plans-end = omega (arith, x .place, suc-mul (x .count) n, there (x .count) inside)
-
-    -- the part of the bytes that is the plan has no fault
-    module _ {part : List ℕ} (e : part ≡ take n (drop base plans)) where
-      is-plan : part ≡ planAt n plans (x .count)
-      is-plan = e ∙ ap (λ (b : ℕ). take n (drop b plans)) (x .place)
-
-      pub plans-lowest : Lowest (columnsFaults n g part) 0
-      plans-lowest = subst (λ (c : List ℕ). Lowest (columnsFaults n g c) 0) (sym is-plan) (ok .plan (x .count) (there (x .count) inside))
-
-      pub plans-more : {c w' : List ℕ} {a : Admitted} {to : ℕ} → ((f : ℕ) → getD c f 0 ≡ getD part f 0) → Admission n g (ofColumns n g part) a
-          → PutEntry n (planOf n (n - g) (a .columns)) c at w w' to → PlansWritten n g plans (base + n) v w' to
-      plans-more {c} {w'} {a} {to} same ad put = record {
-        count = x .count + 1;
-        place = omega (arith, x .place, suc-mul (x .count) n, ap (λ (k : ℕ). k * n) (add-one (x .count)));
-        written = written-more (x .written) (columns-same n c (planAt n plans (x .count)) (λ f _. same f ∙ ap (λ (l : List ℕ). getD l f 0) is-plan))
-            (λ p q. subst (λ (l : List ℕ). Pattern n (planOf n (n - g) l) p) is-plan (admitted-pattern plans-lowest ad p q)) put;
-      }
+      pub plans-more : {c w' : List ℕ} {to : ℕ} → Equal n c (planAt n plans i) → PutEntry n (planOf n (n - g) (a .columns)) c at w w' to
+          → Written n g (planAt n plans) (i + 1) v w' to
+      plans-more {c} {w'} {to} same put = written-more x (columns-same n c (planAt n plans i) same) (admitted-pattern plans-lowest plans-admitted) put
 
     pub plans-room : at + entryLength n ≤ length w
     plans-room =
-        let i = x .count in
-        let l = few i inside in
-        omega (arith, x .written .place, entry-room n i (length plans / n) l, room, written-size (x .written) (omega (arith, entry-room n i (length plans / n) l, room)))
+        let fits = entry-room n i (planCount n (length plans)) h in
+        omega (arith, x .place, fits, room, written-size x (omega (arith, fits, room)))
 
   -- the length stays
-  pub plans-size : {base at : ℕ} {w : List ℕ} → PlansWritten n g plans base v w at → base ≤ length plans → length w ≡ length v
-  plans-size {base} {at} {w} x h = written-size (x .written) (omega (arith, room, mul-le-mul-right {m = x .count} {n = length plans / n} (entryLength n) most))
-    where
-      most : x .count ≤ length plans / n
-      most =
-          by-cases (decLt (length plans / n) (x .count))
-          (λ l. absurd (omega (arith, x .place, ok .multiple, ok .bounds .size .some, suc-mul (length plans / n) n, mul-le-mul-right {m = suc (length plans / n)} {n = x .count} n l)))
-          (λ l. omega arith)
-
-  -- all of them
-  pub plans-all : {base at : ℕ} {w : List ℕ} → PlansWritten n g plans base v w at → base ≡ length plans → Written n g (planAt n plans) (length plans / n) v w at
-  plans-all {base} {at} {w} x e = subst (λ (k : ℕ). Written n g (planAt n plans) k v w at) same (x .written)
-    where
-      some : 1 ≤ n
-      some = ok .bounds .size .some
-
-      same : x .count ≡ length plans / n
-      same =
-          by-cases (decLt (x .count) (length plans / n))
-          (λ h. absurd (omega (arith, x .place, ok .multiple, suc-mul (x .count) n, mul-le-mul-right {m = suc (x .count)} {n = length plans / n} n h)))
-          (λ h. by-cases (decLt (length plans / n) (x .count))
-          (λ l. absurd (omega (arith, x .place, ok .multiple, suc-mul (length plans / n) n, mul-le-mul-right {m = suc (length plans / n)} {n = x .count} n l)))
-          (λ l. omega arith))
+  pub plans-size : {i at : ℕ} {w : List ℕ} → Written n g (planAt n plans) i v w at → i ≤ planCount n (length plans) → length w ≡ length v
+  plans-size {i} {at} {w} x h = written-size x (omega (arith, room, mul-le-mul-right {m = i} {n = planCount n (length plans)} (entryLength n) h))

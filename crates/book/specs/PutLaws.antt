@@ -1,8 +1,8 @@
 -- Laws of what each part of the writer puts: a number, the header, the columns, one count more, an entry; and the lengths that fit.
-use Prim.Native.Nat.{ℕ, zero, suc, _+_, _*_, _-_, _/_, _≤_, _<_}
+use Prim.Native.Nat.{ℕ, zero, suc, _+_, _*_, _-_, _≤_, _<_}
 use mathlib.Core.Path.{_≡_, refl, sym, ap, _∙_}
 use mathlib.Core.List.{List, [], _∷_, _++_}
-use native.Mathlib.Nat.{div-zero, mul-le-mul-right}
+use native.Mathlib.Nat.{mul-le-mul-right}
 use native.Mathlib.Omega.{arith}
 use lib.ListN.{length, getD, take, drop, set, length-set}
 use lib.Seq.{paste, length-paste, take-suc}
@@ -110,9 +110,6 @@ entry-put n at c p v w u h many first second =
     ∙ put-then at (1 + n) (columnsRecord n c) (patternRecord n p) v long
 
 -- the lengths fit
-pub count-none : (n len : ℕ) → n ≡ 0 → 0 ≡ len / n
-count-none n len e = sym (ap (λ (k : ℕ). len / k) e ∙ div-zero len)
-
 pub entries-fit : (count e : ℕ) → count ≤ 65535 → e ≤ 46 → count * e ≤ 3014610
 entries-fit count e h l = omega (arith, mul-le-mul-right {m = count} {n = 65535} e h)
 

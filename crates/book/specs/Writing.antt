@@ -1,5 +1,5 @@
 -- What the parts of the writer promise: a refusal, a begun book, an entry more, the entries so far. Definitions only.
-use Prim.Native.Nat.{ℕ, _+_, _*_, _-_, _<_}
+use Prim.Native.Nat.{ℕ, _+_, _-_, _<_}
 use mathlib.Core.Path.{_≡_}
 use mathlib.Core.List.{List, _++_}
 use lib.ListN.{length}
@@ -9,7 +9,6 @@ use Rattle.regular.specs.Pattern.{Pattern}
 use Rattle.regular.specs.Refusals.{Lowest}
 use Rattle.regular.specs.RefusalLaws.{Lower}
 use Rattle.lent.specs.Lending.{Lending}
-use Rattle.regular.specs.PlanLists.{planAt}
 use Rattle.regular.specs.declared.Design.{Design}
 use Rattle.regular.specs.Book.{each, columnsRecord, patternRecord, columnsLength, patternLength, header, headerLength, bookLength, CountFault}
 use Rattle.book.specs.Over.{over}
@@ -48,12 +47,6 @@ pub record Written (n g : ℕ) (columns : ℕ → List ℕ) (i : ℕ) (v w : Lis
   pub patterns : (j : ℕ) → j < i → Pattern n (planOf n (n - g) (columns j)) (pattern j)
   pub bytes : w ≡ over headerLength (each (λ j. entryRecords n (columns j) (pattern j)) i) v
   pub place : at ≡ bookLength n i
-
--- .. of the plans in the first `base` bytes
-pub record PlansWritten (n g : ℕ) (plans : List ℕ) (base : ℕ) (v w : List ℕ) (at : ℕ) : Type 0 where
-  pub count : ℕ
-  pub place : base ≡ count * n
-  pub written : Written n g (planAt n plans) count v w at
 
 -- a refusal is passed on; or one record's entry more
 pub record Adds (n g : ℕ) (d : Design) (number used : ℕ) (v w : List ℕ) (k to : ℕ) : Type 0 where
