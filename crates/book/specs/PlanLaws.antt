@@ -1,25 +1,25 @@
 -- Laws of the entries: one plan of the bytes more, one record more, and the room that each has.
-use Prim.Native.Nat.{ℕ, suc, _+_, _*_, _/_, _≤_, _<_}
-use mathlib.Core.Path.{_≡_, sym, ap, subst, _∙_}
-use mathlib.Core.Logic.{by-cases}
+use Prim.Native.Nat.{ℕ, _+_, _≤_, _<_}
+use mathlib.Core.Path.{_≡_, subst}
 use mathlib.Core.List.{List}
-use native.Mathlib.Decide.{decLt}
-use native.Mathlib.Nat.{suc-mul, mul-le-mul-right}
-use native.Mathlib.Numerals.{add-one}
+use native.Mathlib.Nat.{mul-le-mul-right}
 use native.Mathlib.Omega.{arith}
-use lib.ListN.{length, getD, take, drop}
+use lib.ListN.{length}
 use Rattle.regular.specs.Refusals.{Lowest, columnsFaults}
 use Rattle.regular.specs.RefusalLaws.{lowest-unique}
-use Rattle.regular.specs.PlanLists.{planAt, HasPlan, wantedPlansFaults}
+use Rattle.regular.specs.PlanBytes.{planAt, planCount}
+use Rattle.regular.specs.PlanLists.{wantedPlansFaults}
+use Rattle.regular.specs.Smallest.{Equal}
 use Rattle.regular.specs.Given.{Given, ofColumns}
 use Rattle.regular.specs.declared.Admitted.{Admitted}
 use Rattle.admission.specs.Admission.{Admission, Ready, ready}
 use Rattle.measures.specs.Measured.{pattern-given}
+use Rattle.plan_layout.specs.Places.{count-held}
 use Rattle.plan_lists.specs.Accepted.{AcceptedPlans, plans-accepted}
-use Rattle.regular.specs.Book.{columnsRecord, BookEntry, entryOfColumns, entryLength, bookLength, headerLength}
-use Rattle.book.specs.Writing.{standardEntry, PutEntry, Written, PlansWritten}
+use Rattle.regular.specs.Book.{columnsRecord, entryLength, bookLength}
+use Rattle.book.specs.Writing.{standardEntry, PutEntry, Written, planEntry}
 use Rattle.book.specs.EntryLaws.{columns-same, entry-like}
-use Rattle.book.specs.WritingLaws.{written-none, written-more, written-size, entry-room}
+use Rattle.book.specs.WritingLaws.{written-more, written-size, entry-room}
 
 -- a plan without faults is admitted
 module _ {n g : ℕ} {p : Given} {x : Admitted} (l : Lowest (p .faults) 0) (ad : Admission n g p x) where
@@ -46,73 +46,28 @@ plans-bounds n g r number plans l e =
     (b .size .most, omega (arith, b .size .less, b .size .most), b .high)
 
 -- plans as bytes, the book of which has room in v
-module _ (n g r : ℕ) (plans : List ℕ) (ok : AcceptedPlans n g r plans) (v : List ℕ) (room : bookLength n (length plans / n) ≤ length v) where
-  abbrev entry : ℕ → BookEntry
-  entry i = entryOfColumns n g (planAt n plans i)
+module _ (n g r : ℕ) (plans : List ℕ) (ok : AcceptedPlans n g r plans) (v : List ℕ) (room : bookLength n (planCount n (length plans)) ≤ length v) where
+  -- one plan more, which has no fault
+  module _ {i at : ℕ} {w : List ℕ} (x : Written n (planEntry n g plans) i v w at) (h : i < planCount n (length plans)) where
+    plans-lowest : Lowest (columnsFaults n g (planAt n plans i)) 0
+    plans-lowest = ok .plan i (count-held n (length plans) i h)
 
-  abbrev planCount : ℕ
-  planCount = length plans / n
+    module _ {plan : List ℕ} {a : Admitted} (e : plan ≡ planAt n plans i) (ad : Admission n g (ofColumns n g plan) a) where
+      plans-admitted : Admission n g (ofColumns n g (planAt n plans i)) a
+      plans-admitted = subst (λ (l : List ℕ). Admission n g (ofColumns n g l) a) e ad
 
-  few : (i : ℕ) → i * n < length plans → i < planCount
-  few i h =
-      by-cases (decLt i planCount) (λ l. l) (λ l. absurd (omega (arith, ok .multiple, mul-le-mul-right {m = planCount} {n = i} n (omega arith))))
+      pub plans-ready : Ready n g (a .columns)
+      plans-ready = admitted-ready plans-lowest plans-admitted
 
-  most : (i : ℕ) → i * n ≤ length plans → i ≤ planCount
-  most i h =
-      by-cases (decLt planCount i)
-      (λ l. absurd (omega (arith, ok .multiple, ok .bounds .size .some, suc-mul planCount n, mul-le-mul-right {m = suc planCount} {n = i} n l)))
-      (λ l. omega arith)
-
-  there : (i : ℕ) → i * n < length plans → HasPlan n plans i
-  there i h = omega (arith, ok .multiple, mul-le-mul-right {m = suc i} {n = planCount} n (few i h))
-
-  pub plans-none : PlansWritten n g plans 0 v v headerLength
-  plans-none = record { count = 0; place = omega arith; written = written-none n entry v }
-
-  module _ {base at : ℕ} {w : List ℕ} (x : PlansWritten n g plans base v w at) (h : base < length plans) where
-    inside : x .count * n < length plans
-    inside = omega (arith, x .place)
-
-    pub plans-end : base + n ≤ length plans
-    plans-end = omega (arith, x .place, suc-mul (x .count) n, there (x .count) inside)
-
-    -- the part of the bytes that is the plan has no fault
-    module _ {part : List ℕ} (e : part ≡ take n (drop base plans)) where
-      is-plan : part ≡ planAt n plans (x .count)
-      is-plan = e ∙ ap (λ (b : ℕ). take n (drop b plans)) (x .place)
-
-      pub plans-lowest : Lowest (columnsFaults n g part) 0
-      plans-lowest = subst (λ (c : List ℕ). Lowest (columnsFaults n g c) 0) (sym is-plan) (ok .plan (x .count) (there (x .count) inside))
-
-      pub plans-more : {c w' : List ℕ} {a : Admitted} {to : ℕ} → ((f : ℕ) → getD c f 0 ≡ getD part f 0) → Admission n g (ofColumns n g part) a
-          → PutEntry n (standardEntry n g c (a .columns)) at w w' to → PlansWritten n g plans (base + n) v w' to
-      plans-more {c} {w'} {a} {to} same ad put = record {
-        count = x .count + 1;
-        place = omega (arith, x .place, suc-mul (x .count) n, ap (λ (k : ℕ). k * n) (add-one (x .count)));
-        written = written-more (x .written) (subst (λ (l : List ℕ). PutEntry n (entryOfColumns n g l) at w w' to) is-plan
-            (entry-of plans-lowest ad (columns-same n c part (λ f _. same f)) put));
-      }
+      pub plans-more : {c w' : List ℕ} {to : ℕ} → Equal n c (planAt n plans i) → PutEntry n (standardEntry n g c (a .columns)) at w w' to
+          → Written n (planEntry n g plans) (i + 1) v w' to
+      plans-more {c} {w'} {to} same put = written-more x (entry-of plans-lowest plans-admitted (columns-same n c (planAt n plans i) same) put)
 
     pub plans-room : at + entryLength n ≤ length w
     plans-room =
-        let more = entry-room n (x .count) planCount (few (x .count) inside) in
-        omega (arith, x .written .place, more, room, written-size (x .written) (omega (arith, more, room)))
+        let fits = entry-room n i (planCount n (length plans)) h in
+        omega (arith, x .place, fits, room, written-size x (omega (arith, fits, room)))
 
   -- the length stays
-  pub plans-size : {base at : ℕ} {w : List ℕ} → PlansWritten n g plans base v w at → base ≤ length plans → length w ≡ length v
-  plans-size {base} {at} {w} x h =
-      let all = mul-le-mul-right {m = x .count} {n = planCount} (entryLength n) (most (x .count) (omega (arith, x .place))) in
-      written-size (x .written) (omega (arith, room, all))
-
-  -- all of them
-  pub plans-all : {base at : ℕ} {w : List ℕ} → PlansWritten n g plans base v w at → base ≡ length plans → Written n entry planCount v w at
-  plans-all {base} {at} {w} x e = subst (λ (k : ℕ). Written n entry k v w at) same (x .written)
-    where
-      some : 1 ≤ n
-      some = ok .bounds .size .some
-
-      same : x .count ≡ planCount
-      same =
-          by-cases (decLt (x .count) planCount)
-          (λ h. absurd (omega (arith, x .place, ok .multiple, suc-mul (x .count) n, mul-le-mul-right {m = suc (x .count)} {n = planCount} n h)))
-          (λ h. omega (arith, most (x .count) (omega (arith, x .place))))
+  pub plans-size : {i at : ℕ} {w : List ℕ} → Written n (planEntry n g plans) i v w at → i ≤ planCount n (length plans) → length w ≡ length v
+  plans-size {i} {at} {w} x h = written-size x (omega (arith, room, mul-le-mul-right {m = i} {n = planCount n (length plans)} (entryLength n) h))

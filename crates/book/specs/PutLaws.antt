@@ -1,8 +1,8 @@
 -- Laws of what each part of the writer puts: a number, the header, the columns, one count more, an entry; and the lengths that fit.
-use Prim.Native.Nat.{ℕ, zero, suc, _+_, _*_, _-_, _/_, _≤_, _<_}
+use Prim.Native.Nat.{ℕ, zero, suc, _+_, _*_, _-_, _≤_, _<_}
 use mathlib.Core.Path.{_≡_, refl, sym, ap, _∙_}
 use mathlib.Core.List.{List, [], _∷_, _++_}
-use native.Mathlib.Nat.{div-zero, mul-le-mul-right}
+use native.Mathlib.Nat.{mul-le-mul-right}
 use native.Mathlib.Omega.{arith}
 use lib.ListN.{length, getD, take, drop, set, length-set}
 use lib.Seq.{paste, length-paste, take-suc}
@@ -121,10 +121,6 @@ module _ (n at : ℕ) (c v w : List ℕ) (h : at + entryLength n ≤ length v) (
       ∙ put-then (at + columnsLength n) 1 (patternKind n ∷ []) counts w refl
       ∙ ap (over (at + columnsLength n) (patternRecord n p)) columns-stand
       ∙ put-then at (columnsLength n) (columnsRecord n c) (patternRecord n p) v long
-
--- no plan of 0 bytes
-pub count-none : (n len : ℕ) → n ≡ 0 → 0 ≡ len / n
-count-none n len e = sym (ap (λ (k : ℕ). len / k) e ∙ div-zero len)
 
 -- the entries' length fits
 pub entries-fit : (n count : ℕ) → n ≤ 16 → count ≤ mostPlans → count * entryLength n ≤ mostPlans * entryLength 16

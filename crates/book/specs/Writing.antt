@@ -1,5 +1,5 @@
 -- What the parts of the writer promise: a refusal, a begun book, an entry more, the entries so far. Definitions only.
-use Prim.Native.Nat.{ℕ, _+_, _*_, _-_, _<_}
+use Prim.Native.Nat.{ℕ, _+_, _-_, _<_}
 use mathlib.Core.Path.{_≡_}
 use mathlib.Core.List.{List}
 use lib.ListN.{length}
@@ -7,7 +7,7 @@ use Rattle.regular.specs.Columns.{planOf}
 use Rattle.regular.specs.Refusals.{Lowest}
 use Rattle.regular.specs.RefusalLaws.{Lower}
 use Rattle.lent.specs.Lending.{Lending}
-use Rattle.regular.specs.PlanLists.{planAt}
+use Rattle.regular.specs.PlanBytes.{planAt}
 use Rattle.regular.specs.declared.Design.{Design}
 use Rattle.regular.specs.Book.{header, headerLength, entryLength, BookEntry, entryOfColumns, entryOfDesign, EntryBytes, EntriesBytes, bookLength, CountFault}
 use Rattle.book.specs.Over.{over}
@@ -44,11 +44,9 @@ pub record Written (n : ℕ) (entry : ℕ → BookEntry) (i : ℕ) (v w : List �
   pub bytes : w ≡ over headerLength body v
   pub place : at ≡ bookLength n i
 
--- .. those of the plans in the first `base` bytes
-pub record PlansWritten (n g : ℕ) (plans : List ℕ) (base : ℕ) (v w : List ℕ) (at : ℕ) : Type 0 where
-  pub count : ℕ
-  pub place : base ≡ count * n
-  pub written : Written n (λ i. entryOfColumns n g (planAt n plans i)) count v w at
+-- entry i of the plans in bytes
+abbrev pub planEntry : ℕ → ℕ → List ℕ → ℕ → BookEntry
+planEntry n g plans i = entryOfColumns n g (planAt n plans i)
 
 -- a refusal is passed on; or one record's entry more
 pub record EntryAdded (n g : ℕ) (d : Design) (number used : ℕ) (v w : List ℕ) (k to : ℕ) : Type 0 where

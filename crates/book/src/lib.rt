@@ -1,16 +1,20 @@
 // The book of a list of plans, into lent bytes: all is judged first, then the header and entry after entry are written.
 ghost use mathlib.Core.Path.{_≡_};
-ghost use Prim.Native.Nat.{ℕ, _+_, _*_, _-_, _/_, _≤_};
+ghost use Prim.Native.Nat.{ℕ, _+_, _*_, _-_, _≤_};
 ghost use lib.ListN.{length};
 ghost use Rattle.regular.specs.Pattern.{ofLength};
+ghost use Rattle.regular.specs.PlanBytes.{planCount};
 ghost use Rattle.regular.specs.Refusals.{Lowest, designFaults};
 ghost use Rattle.plan_lists.specs.Accepted.{AcceptedPlans};
 ghost use Rattle.regular.specs.Book.{lowFirst, each, header, headerLength, entryRecords, entryLength};
 ghost use Rattle.regular.specs.Book.{bookLength, mostPlans, CountFault, WritesPlans, WritesDesigns};
 ghost use Rattle.admission.specs.Admission.{Ready};
 ghost use Rattle.book.specs.Over.{over};
-ghost use Rattle.book.specs.Writing.{standardEntry, PutEntry, BookRefusal, Opened, EntryAdded, PlansWritten};
+ghost use Rattle.book.specs.Writing.{standardEntry, PutEntry, BookRefusal, Opened, EntryAdded, Written, planEntry};
 use admission::lower_of;
+use plan_layout::columns_at;
+use plan_layout::plan_at;
+use plan_layout::plan_count;
 use regular::BookAnswer;
 use regular::Design;
 
@@ -96,16 +100,6 @@ fn put_plan(
     put_entry(n, columns, counts, at, out)
 }
 
-// How many plans of n bytes there are.
-fn count_of(n: usize, len: usize) -> usize
-    ensures { λ res. ⌜ res ≡ len / n ⌝ }
-{
-    if n == 0 {
-        return 0;
-    }
-    len / n
-}
-
 // 4 if there are more plans than the header can count.
 fn many(count: usize) -> u8
     ensures { λ k. ⌜ Lowest (CountFault count) k ⌝ }
@@ -168,29 +162,28 @@ fn begin(n: usize, g: usize, r: usize, count: usize, number: u8, out: &mut [u8])
 
 // The entries of all plans, after the header; and the place after them.
 fn put_plans(n: usize, g: usize, plans: &[u8], out: &mut [u8]) -> usize
-    requires { ⌜ ((r : ℕ) × AcceptedPlans n g r (now plans)) × (bookLength n (length (now plans) / n) ≤ length (now out)) ⌝ }
-    ensures { λ res. ⌜ PlansWritten n g (now (plans .entry)) (length (now (plans .entry))) (now (out .entry)) (now (out .exit)) res ⌝ }
+    requires { ⌜ ((r : ℕ) × AcceptedPlans n g r (now plans)) × (bookLength n (planCount n (length (now plans))) ≤ length (now out)) ⌝ }
+    ensures { λ res. ⌜ Written n (planEntry n g (now (plans .entry))) (planCount n (length (now (plans .entry)))) (now (out .entry)) (now (out .exit)) res ⌝ }
 {
-    let mut base: usize = 0;
-    let mut at: usize = 6;
-    while base < plans.len() {
-        let end = base + n;
-        let list = &plans[base..end];
-        let plan = admission::admit_columns(n, g, list);
-        let columns = admission::array_of(list);
+    let count = plan_count(n, plans.len());
+    let mut i: usize = 0;
+    let mut at = HEADER_LENGTH;
+    while i < count {
+        let plan = admission::admit_columns(n, g, plan_at(n, plans, i));
+        let columns = columns_at(n, plans, i);
         let standard = plan.columns;
         at = put_plan(n, g, columns, standard, at, out);
-        base = end;
+        i += 1;
     }
     at
 }
 
-// The book of plans given as bytes, n columns a plan, one after another.
+// The book of plans given as bytes.
 pub fn write_book(n: usize, g: usize, r: usize, plans: &[u8], out: &mut [u8]) -> BookAnswer
     ensures { λ res. ⌜ WritesPlans n g r (now (plans .entry)) (now (out .entry)) (now (out .exit)) (res .number) (res .count) ⌝ }
 {
     let number = plan_lists::plans_refusal(n, g, r, plans);
-    let count = count_of(n, plans.len());
+    let count = plan_count(n, plans.len());
     let begun = begin(n, g, r, count, number, out);
     if begun.number != 0 {
         return begun;

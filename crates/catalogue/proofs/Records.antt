@@ -10,7 +10,8 @@ use borrow.Author.Tests.{ltb-true, ltb-false}
 use lib.Dec.{T, ltb}
 use lib.ListN.{length, getD, drop, set, length-set}
 use lib.Seq.{getD-set-same, getD-set-other, drop-set-lt, drop-drop}
-use Rattle.regular.specs.Designs.{blank}
+use Rattle.gf2.specs.Truth.{clash}
+use Rattle.regular.specs.Designs.{designOf, blank}
 use Rattle.regular.specs.declared.Design.{Design}
 use Rattle.regular.specs.Smallest.{Entry}
 use Rattle.entries.specs.declared.WalkState.{WalkState}
@@ -19,8 +20,8 @@ use Rattle.catalogue.specs.declared.NextStop.{NextStop}
 use Rattle.catalogue.specs.declared.Stop.{Stop}
 use Rattle.regular.specs.Catalogues.{ListsDesigns}
 use Rattle.catalogue.specs.Turns.{Turned}
-use Rattle.catalogue.specs.Records.{Head, Stepped, Listing}
-use Rattle.catalogue.proofs.Turns.{with-entry, with-same, with-other, progress-none, progress-more, stopped, clash}
+use Rattle.catalogue.specs.Records.{Head, StepAnswers, FillingRecords}
+use Rattle.catalogue.proofs.Turns.{with-entry, with-same, with-other, progress-none, progress-more, stopped}
 
 pub holds : (t : Bool) → T t → t ≡ true
 holds true _ = refl
@@ -33,25 +34,29 @@ fails false _ = refl
 -- what a turn answers
 module _ (n g r i len : ℕ) (c : Stop) where
   pub stepped-stops : (found : Bool) (number : ℕ) (d : List ℕ) (w : WalkState) → Turned n g r i (ltb i len) (c .design .columns) found number d w → found ≡ false
-      → Stepped n g r i len c (record { found = false; stop = c; answer = record { number = number; count = i } })
+      → StepAnswers n g r i len c (record { found = false; stop = c; answer = record { number = number; count = i } })
   stepped-stops found number d w t e = record {
-    goes = λ q. absurd (clash (sym q));
-    head = λ q. absurd (clash (sym q));
+    goes = λ q. absurd (clash q refl);
+    head = λ q. absurd (clash q refl);
     stops = λ _. t .stops e;
     count = refl;
   }
 
-  pub stepped-goes : (found : Bool) (number : ℕ) (d : List ℕ) (w : WalkState) (f b : ℕ) → f ≡ n → b ≡ n - g → Turned n g r i (ltb i len) (c .design .columns) found number d w → found ≡ true
-      → Stepped n g r i len c (record { found = true; stop = record { design = record { factors = f; basics = b; columns = d }; trail = w }; answer = record { number = 0; count = i } })
-  stepped-goes found number d w f b p q t e = record {
+  -- what a turn that finds the record d answers
+  abbrev found-answer : Design → WalkState → NextStop
+  found-answer d w = record { found = true; stop = record { design = d; trail = w }; answer = record { number = 0; count = i } }
+
+  pub stepped-goes : (found : Bool) (number : ℕ) (d : List ℕ) (w : WalkState) (made : Design) → made ≡ designOf n (n - g) d
+      → Turned n g r i (ltb i len) (c .design .columns) found number d w → found ≡ true → StepAnswers n g r i len c (found-answer made w)
+  stepped-goes found number d w made p t e = subst (λ (x : Design). StepAnswers n g r i len c (found-answer x w)) (sym p) (record {
     goes = λ _. t .goes e;
-    head = λ _. record { factors = p; basics = q };
-    stops = λ y. absurd (clash y);
+    head = λ _. record { factors = refl; basics = refl };
+    stops = λ y. absurd (clash refl y);
     count = refl;
-  }
+  })
 
 -- the loop
-pub listing-none : (n g r : ℕ) (ys : List Design) (c : Stop) → Followed 0 [] (c .trail) → Listing n g r ys ys 0 c
+pub listing-none : (n g r : ℕ) (ys : List Design) (c : Stop) → Followed 0 [] (c .trail) → FillingRecords n g r ys ys 0 c
 listing-none n g r ys c h = record {
   all = λ _. [];
   progress = progress-none n g r (λ _. []) (c .design .columns) (c .trail) h;
@@ -62,11 +67,11 @@ listing-none n g r ys c h = record {
   rest = refl;
 }
 
-module _ (n g r : ℕ) (ys zs : List Design) (i : ℕ) (c : Stop) (x : Listing n g r ys zs i c) (s : NextStop) (t : Stepped n g r i (length ys) c s) where
+module _ (n g r : ℕ) (ys zs : List Design) (i : ℕ) (c : Stop) (x : FillingRecords n g r ys zs i c) (s : NextStop) (t : StepAnswers n g r i (length ys) c s) where
   pub listing-room : s .found ≡ true → i < length ys
   listing-room e = ltb-true i (length ys) (t .goes e .room)
 
-  pub listing-more : s .found ≡ true → Listing n g r ys (set zs i (s .stop .design)) (i + 1) (s .stop)
+  pub listing-more : s .found ≡ true → FillingRecords n g r ys (set zs i (s .stop .design)) (i + 1) (s .stop)
   listing-more e =
       let d = s .stop .design in
       let zs' = set zs i d in
@@ -90,7 +95,7 @@ module _ (n g r : ℕ) (ys zs : List Design) (i : ℕ) (c : Stop) (x : Listing n
   pub listing-stops : s .found ≡ false → ListsDesigns n g r ys zs (s .answer .number) (s .answer .count)
   listing-stops e = subst (λ (k : ℕ). ListsDesigns n g r ys zs (s .answer .number) k) (sym (t .count)) (record {
     catalogues = stopped n g r (λ k. k ≤ length ys) (λ a b h l. omega arith) i (x .all) (c .design .columns) (c .trail) (x .progress) (x .room) (λ j. getD zs j blank .columns)
-        (λ j h f l. ap (λ (y : List ℕ). getD y f 0) (x .entries j h)) (s .answer .number) (ltb i (length ys)) (λ q l. omega (arith, ltb-false i (length ys) q)) (t .stops e);
+        (λ j h f l. ap (λ (y : List ℕ). getD y f 0) (x .entries j h)) (s .answer .number) (ltb i (length ys)) (λ _ q l. omega (arith, ltb-false i (length ys) q)) (t .stops e);
     records = λ j h.
         let b = x .progress .begun j h .held in
         let q = x .entries j h in

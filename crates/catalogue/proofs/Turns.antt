@@ -10,6 +10,7 @@ use native.Mathlib.Omega.{arith}
 use borrow.Author.Tests.{lt-ltb, eq-eqb, ne-eqb}
 use lib.Dec.{eqb}
 use lib.ListN.{length, getD}
+use Rattle.gf2.specs.Truth.{clash}
 use Rattle.regular.specs.Accepted.{sizes-accepted}
 use Rattle.regular.specs.Refusals.{RoomFault, Lowest, sizeFaults}
 use Rattle.regular.specs.RefusalLaws.{lowest-none, none-lowest, lowest-at, lowest-first, lowest-then}
@@ -27,10 +28,7 @@ use Rattle.entries.specs.declared.WalkState.{WalkState}
 use Rattle.entries.specs.Tracing.{Followed}
 use Rattle.entries.specs.Stepping.{Stepped}
 use Rattle.regular.specs.Sizes.{Sized}
-use Rattle.catalogue.specs.Turns.{from, Goes, Stops, Turned, Progress}
-
-pub clash : true ≡ false → ⊥
-clash e = let z : _≡_ {A = ℕ} 0 1 = cc in omega arith
+use Rattle.catalogue.specs.Turns.{from, NextFound, Stops, Turned, EntriesSoFar}
 
 sized-never : (n g r : ℕ) → Sized n g r → (h : ℕ) → sizeFaults n g r h → ⊥
 sized-never n g r s h f = none-lowest (sizeFaults n g r) (sizes-accepted n g r s) h f
@@ -38,17 +36,17 @@ sized-never n g r s h f = none-lowest (sizeFaults n g r) (sizes-accepted n g r s
 -- what a turn answers
 module _ (n g r i : ℕ) (room : Bool) (c : List ℕ) where
   pub turn-refused : (k : ℕ) (d : List ℕ) → (k ≡ 0 → ⊥) → k ≤ 3 → Lowest (sizeFaults n g r) k → (w : WalkState) → Turned n g r i room c false k d w
-  turn-refused k d ne h l w = record { goes = λ e. absurd (clash (sym e)); stops = λ _. Stops.refused k (omega arith) h l }
+  turn-refused k d ne h l w = record { goes = λ e. absurd (clash e refl); stops = λ _. Stops.refused k (omega arith) h l }
 
   module _ (s : Sized n g r) (found : Bool) (e : List ℕ) (x : Stepped n (n - g) r (from i n c) found e) where
     pub turn-ended : found ≡ false → (d : List ℕ) (w : WalkState) → Turned n g r i room c false 0 d w
-    turn-ended q d w = record { goes = λ e. absurd (clash (sym e)); stops = λ _. Stops.ended s (x .next .none q) }
+    turn-ended q d w = record { goes = λ e. absurd (clash e refl); stops = λ _. Stops.ended s (x .next .none q) }
 
     pub turn-full : found ≡ true → room ≡ false → (d : List ℕ) (w : WalkState) → Turned n g r i room c false 9 d w
-    turn-full q f d w = record { goes = λ e. absurd (clash (sym e)); stops = λ _. Stops.full s f e (x .next .some q) }
+    turn-full q f d w = record { goes = λ e. absurd (clash e refl); stops = λ _. Stops.full s f e (x .next .some q) }
 
     pub turn-goes : found ≡ true → room ≡ true → (k : ℕ) (w : WalkState) → Followed (n - 1) e w → Turned n g r i room c true k e w
-    turn-goes q f k w h = record { goes = λ _. record { room = f; sized = s; first = x .next .some q; followed = h }; stops = λ y. absurd (clash y) }
+    turn-goes q f k w h = record { goes = λ _. record { room = f; sized = s; first = x .next .some q; followed = h }; stops = λ y. absurd (clash refl y) }
 
 -- the entries, with d as the i-th
 abbrev pub choose : Bool → List ℕ → List ℕ → List ℕ
@@ -79,20 +77,20 @@ module _ (n m r i : ℕ) (all : ℕ → List ℕ) (d : List ℕ) (b : Begun n m 
       (λ ne. subst (λ (v : ℕ). First n m r v (with-entry all i d j)) (sym (edges j (omega arith)))
       (subst (λ (x : List ℕ). First n m r (edge n all j) x) (sym (with-other all i d j ne)) (b j (omega arith))))
 
-pub progress-none : (n g r : ℕ) (all : ℕ → List ℕ) (c : List ℕ) (trail : WalkState) → Followed 0 [] trail → Progress n g r 0 all c trail
+pub progress-none : (n g r : ℕ) (all : ℕ → List ℕ) (c : List ℕ) (trail : WalkState) → Followed 0 [] trail → EntriesSoFar n g r 0 all c trail
 progress-none n g r all c trail h = record {
   begun = λ j h. absurd (omega arith);
   last = refl;
-  going = record { sized = λ e. absurd (clash (sym e)); held = λ e. absurd (clash (sym e)); start = λ _. h };
+  going = record { sized = λ e. absurd (clash e refl); held = λ e. absurd (clash e refl); start = λ _. h };
 }
 
-pub progress-more : (n g r i : ℕ) (all : ℕ → List ℕ) (room : Bool) (c d : List ℕ) (v w : WalkState) → Progress n g r i all c v → Goes n g r i room c d w → Progress n g r (i + 1) (with-entry all i d) d w
+pub progress-more : (n g r i : ℕ) (all : ℕ → List ℕ) (room : Bool) (c d : List ℕ) (v w : WalkState) → EntriesSoFar n g r i all c v → NextFound n g r i room c d w → EntriesSoFar n g r (i + 1) (with-entry all i d) d w
 progress-more n g r i all room c d v w p t = record {
   begun = begun-more n (n - g) r i all d (p .begun) (subst (λ (v : ℕ). First n (n - g) r v d) (sym (p .last)) (t .first));
   last = ap (edge n (with-entry all i d)) (add-one i)
       ∙ ap (λ (x : List ℕ). suc (value n x)) (with-same all i d)
       ∙ ap (λ (b : Bool). bound b n d) (sym (lt-ltb 0 (i + 1) (omega arith)));
-  going = record { sized = λ _. t .sized; held = λ _. (t .first .held, t .followed); start = λ e. absurd (clash (sym (lt-ltb 0 (i + 1) (omega arith)) ∙ e)) };
+  going = record { sized = λ _. t .sized; held = λ _. (t .first .held, t .followed); start = λ e. absurd (clash (lt-ltb 0 (i + 1) (omega arith)) e) };
 }
 
 -- the same entries
@@ -104,7 +102,7 @@ catalogue-equal n m r count a b e k = record {
 }
 
 -- where the loop stops: the answer, of which `room` and the entries in the list are the list's
-module _ (n g r : ℕ) (room : ℕ → Type 0) (down : (a b : ℕ) → b ≤ a → room a → room b) (i : ℕ) (all : ℕ → List ℕ) (c : List ℕ) (trail : WalkState) (p : Progress n g r i all c trail) (here : room i)
+module _ (n g r : ℕ) (room : ℕ → Type 0) (down : (a b : ℕ) → b ≤ a → room a → room b) (i : ℕ) (all : ℕ → List ℕ) (c : List ℕ) (trail : WalkState) (p : EntriesSoFar n g r i all c trail) (here : room i)
     (entry : ℕ → List ℕ) (same : (j : ℕ) → j < i → Equal n (all j) (entry j)) where
   stop-refused : (k : ℕ) → 0 < k → k ≤ 3 → Lowest (sizeFaults n g r) k → Catalogues n g r room entry k i
   stop-refused k a b l = record {
@@ -157,7 +155,7 @@ module _ (n g r : ℕ) (room : ℕ → Type 0) (down : (a b : ℕ) → b ≤ a �
       is-9 : (h : ℕ) → RoomFault n (n - g) r room h → 9 ≤ h
       is-9 h (RoomFault.more t a x y) = omega arith
 
-  pub stopped : (number : ℕ) (left : Bool) → (left ≡ false → room (suc i) → ⊥) → Stops n g r i left c number → Catalogues n g r room entry number i
+  pub stopped : (number : ℕ) (left : Bool) → (Sized n g r → left ≡ false → room (suc i) → ⊥) → Stops n g r i left c number → Catalogues n g r room entry number i
   stopped number left past (Stops.refused k a b l) = stop-refused k a b l
   stopped number left past (Stops.ended s h) = stop-ended s h
-  stopped number left past (Stops.full s f d h) = stop-full s (past f) d h
+  stopped number left past (Stops.full s f d h) = stop-full s (past s f) d h

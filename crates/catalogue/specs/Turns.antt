@@ -2,9 +2,10 @@
 use mathlib.Core.Path.{_≡_}
 use mathlib.Core.Bool.{Bool, true, false}
 use mathlib.Core.List.{List, []}
-use Prim.Native.Nat.{ℕ, _*_, _-_, _≤_, _<_}
+use Prim.Native.Nat.{ℕ, _-_, _≤_, _<_}
 use lib.Dec.{ltb}
 use lib.ListN.{length, drop}
+use Rattle.regular.specs.PlanBytes.{planStart, planAt}
 use Rattle.regular.specs.Refusals.{Lowest, sizeFaults}
 use Rattle.regular.specs.Smallest.{Equal, Entry}
 use Rattle.smallest_laws.specs.Value.{value}
@@ -19,13 +20,13 @@ abbrev pub from : ℕ → ℕ → List ℕ → ℕ
 from i n c = bound (ltb 0 i) n c
 
 -- before every turn but the first, c is an entry, to which the trail leads; before the first the trail is that of no column
-pub record Going (n g r i : ℕ) (c : List ℕ) (trail : WalkState) : Type 0 where
+pub record WalkAt (n g r i : ℕ) (c : List ℕ) (trail : WalkState) : Type 0 where
   pub sized : ltb 0 i ≡ true → Sized n g r
   pub held : ltb 0 i ≡ true → Held n (n - g) r c × Followed (n - 1) c trail
   pub start : ltb 0 i ≡ false → Followed 0 [] trail
 
 -- d is the next entry, and has room; the trail leads to it
-pub record Goes (n g r i : ℕ) (left : Bool) (c d : List ℕ) (trail : WalkState) : Type 0 where
+pub record NextFound (n g r i : ℕ) (left : Bool) (c d : List ℕ) (trail : WalkState) : Type 0 where
   pub room : left ≡ true
   pub sized : Sized n g r
   pub first : First n (n - g) r (from i n c) d
@@ -38,22 +39,20 @@ pub data Stops (n g r i : ℕ) (room : Bool) (c : List ℕ) : ℕ → Type 0 whe
   full : Sized n g r → room ≡ false → (d : List ℕ) → First n (n - g) r (from i n c) d → Stops n g r i room c 9
 
 pub record Turned (n g r i : ℕ) (room : Bool) (c : List ℕ) (found : Bool) (number : ℕ) (d : List ℕ) (trail : WalkState) : Type 0 where
-  pub goes : found ≡ true → Goes n g r i room c d trail
+  pub goes : found ≡ true → NextFound n g r i room c d trail
   pub stops : found ≡ false → Stops n g r i room c number
 
 -- after i turns: the first i entries, c being the last of them
-pub record Progress (n g r i : ℕ) (all : ℕ → List ℕ) (c : List ℕ) (trail : WalkState) : Type 0 where
+pub record EntriesSoFar (n g r i : ℕ) (all : ℕ → List ℕ) (c : List ℕ) (trail : WalkState) : Type 0 where
   pub begun : Begun n (n - g) r i all
   pub last : edge n all i ≡ from i n c
-  pub going : Going n g r i c trail
+  pub going : WalkAt n g r i c trail
 
--- the loop over the bytes after i turns: the list w, filled up to base, was v
-pub record Filling (n g r : ℕ) (v w : List ℕ) (i base : ℕ) (c : List ℕ) (trail : WalkState) : Type 0 where
+-- the loop over the bytes after i turns: the list w, filled up to plan i, was v
+pub record FillingBytes (n g r : ℕ) (v w : List ℕ) (i : ℕ) (c : List ℕ) (trail : WalkState) : Type 0 where
   pub all : ℕ → List ℕ
-  pub progress : Progress n g r i all c trail
-  pub place : base ≡ i * n
-  pub some : i ≤ base
-  pub room : base ≤ length v
+  pub progress : EntriesSoFar n g r i all c trail
+  pub room : planStart n i ≤ length v
   pub size : length w ≡ length v
-  pub entries : (j : ℕ) → j < i → Equal n (all j) (drop (j * n) w)
-  pub rest : drop base w ≡ drop base v
+  pub entries : (j : ℕ) → j < i → Equal n (all j) (planAt n w j)
+  pub rest : drop (planStart n i) w ≡ drop (planStart n i) v

@@ -3,14 +3,16 @@ ghost use mathlib.Core.Path.{_≡_};
 ghost use mathlib.Core.List.{[]};
 ghost use Rattle.regular.specs.Designs.{blank};
 ghost use Rattle.entries.specs.Tracing.{Followed};
-ghost use Rattle.catalogue.specs.Turns.{Going, Turned};
-ghost use Rattle.catalogue.specs.Records.{Stepped};
+ghost use Rattle.catalogue.specs.Turns.{WalkAt, Turned};
+ghost use Rattle.catalogue.specs.Records.{StepAnswers};
 ghost use Rattle.regular.specs.Catalogues.{ListsBytes, ListsDesigns};
 use admission::bounds_number;
 use entries::WalkState;
 use entries::next_entry;
 use entries::walk_start;
-use lent::put_first;
+use plan_layout::blank_design;
+use plan_layout::plan_count;
+use plan_layout::put_plan;
 use regular::CatalogueAnswer;
 use regular::Design;
 
@@ -32,7 +34,7 @@ fn advance(
     c: [u8; 16],
     trail: WalkState,
 ) -> Turn
-    requires { ⌜ Going n g r i c trail ⌝ }
+    requires { ⌜ WalkAt n g r i c trail ⌝ }
     ensures { λ res. ⌜ Turned n g r i room c (res .found) (res .number) (res .columns) (res .trail) ⌝ }
 {
     let number = bounds_number(n, g, r);
@@ -72,17 +74,16 @@ fn advance(
     }
 }
 
-// The catalogue into a lent list of bytes, n columns an entry, one after another.
+// The catalogue into a lent list of bytes, entry i as plan i.
 pub fn list_catalogue(n: usize, g: usize, r: usize, out: &mut [u8]) -> CatalogueAnswer
     ensures { λ res. ⌜ ListsBytes n g r (now (out .entry)) (now (out .exit)) (res .number) (res .count) ⌝ }
 {
+    let places = plan_count(n, out.len());
     let mut c = [0u8; 16];
     let mut trail = walk_start();
     let mut count: usize = 0;
-    let mut base: usize = 0;
     loop {
-        let room = n <= out.len() - base;
-        let s = advance(n, g, r, count, room, c, trail);
+        let s = advance(n, g, r, count, count < places, c, trail);
         if !s.found {
             return CatalogueAnswer {
                 number: s.number,
@@ -90,10 +91,9 @@ pub fn list_catalogue(n: usize, g: usize, r: usize, out: &mut [u8]) -> Catalogue
             };
         }
         let t = s.columns;
-        put_first(n, t, base, out);
+        put_plan(n, t, count, out);
         c = t;
         trail = s.trail;
-        base += n;
         count += 1;
     }
 }
@@ -115,21 +115,15 @@ struct NextStop {
 fn begin() -> Stop
     ensures { λ res. ⌜ (res .design ≡ blank) × Followed 0 [] (res .trail) ⌝ }
 {
+    let design = blank_design();
     let trail = walk_start();
-    Stop {
-        design: Design {
-            factors: 0,
-            basics: 0,
-            columns: [0u8; 16],
-        },
-        trail,
-    }
+    Stop { design, trail }
 }
 
 // The entry after the place c, the i-th, or the first if i is 0, where a list of len has a place for it.
 fn step(n: usize, g: usize, r: usize, i: usize, len: usize, c: Stop) -> NextStop
-    requires { ⌜ Going n g r i (c .design .columns) (c .trail) ⌝ }
-    ensures { λ res. ⌜ Stepped n g r i len c res ⌝ }
+    requires { ⌜ WalkAt n g r i (c .design .columns) (c .trail) ⌝ }
+    ensures { λ res. ⌜ StepAnswers n g r i len c res ⌝ }
 {
     let columns = c.design.columns;
     let trail = c.trail;
@@ -146,14 +140,11 @@ fn step(n: usize, g: usize, r: usize, i: usize, len: usize, c: Stop) -> NextStop
     }
     let d = t.columns;
     let onward = t.trail;
+    let design = plan_layout::design(n, n - g, d);
     NextStop {
         found: true,
         stop: Stop {
-            design: Design {
-                factors: n as u8,
-                basics: (n - g) as u8,
-                columns: d,
-            },
+            design,
             trail: onward,
         },
         answer: CatalogueAnswer {

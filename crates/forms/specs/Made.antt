@@ -7,7 +7,7 @@ use lib.ListN.{getD, replicate}
 use Rattle.regular.specs.Runs.{Runs}
 use Rattle.regular.specs.Words.{Reduced}
 use Rattle.regular.specs.Columns.{StandardColumns, RunTable, RunsOfPlan, Listed}
-use Rattle.regular.specs.Designs.{Holds, blank}
+use Rattle.regular.specs.Designs.{Holds, designOf, blank}
 use Rattle.regular.specs.Smallest.{Equal}
 use Rattle.regular.specs.Refusals.{Gives, LentFault, either, Fills}
 use Rattle.regular.specs.declared.Design.{Design}
@@ -25,7 +25,7 @@ use Rattle.admission.specs.Admission.{Admission}
 pub record DesignMade (n m number : ℕ) (a : List ℕ) (r : ℕ) (d : Design) : Type 0 where
   pub same : r ≡ number
   pub refused : 0 < number → d ≡ blank
-  pub made : number ≡ 0 → d ≡ record { factors = n; basics = m; columns = a }
+  pub made : number ≡ 0 → d ≡ designOf n m a
 
 -- the first g places hold the reduced words of standard columns
 abbrev pub WordsAt : ℕ → ℕ → List ℕ → List ℕ → Type 0

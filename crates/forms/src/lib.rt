@@ -25,18 +25,10 @@ fn design_of(n: usize, g: usize, plan: Admitted) -> DesignAnswer
     let number = plan.number;
     let columns = plan.columns;
     if number != 0 {
-        let design = Design {
-            factors: 0,
-            basics: 0,
-            columns: [0u8; 16],
-        };
+        let design = plan_layout::blank_design();
         return DesignAnswer { number, design };
     }
-    let design = Design {
-        factors: n as u8,
-        basics: (n - g) as u8,
-        columns,
-    };
+    let design = plan_layout::design(n, n - g, columns);
     DesignAnswer { number, design }
 }
 

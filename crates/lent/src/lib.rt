@@ -1,5 +1,4 @@
-// Results go into lent lists: a list of too few places is refused, else the first places are filled and the places past them are untouched. Public
-// for the calls that fill a lent list.
+// Results go into lent lists: a list of too few places is refused, else the first places are filled and the places past them are untouched.
 ghost use mathlib.Core.Path.{_≡_};
 ghost use Prim.Native.Nat.{_+_, _≤_};
 ghost use lib.ListN.{length};
@@ -63,7 +62,7 @@ pub fn lend_first(n: usize, bytes: [u8; 16], out: &mut [u8]) -> u8
     lend_bytes(&bytes[..n], out)
 }
 
-// The first n bytes of an array, at the places of `out` from `at` on. Public for the catalogue's list of bytes and the book, which see to the room.
+// The first n bytes of an array, at the places of `out` from `at` on, where there is room.
 pub fn put_first(n: usize, bytes: [u8; 16], at: usize, out: &mut [u8])
     requires { ⌜ (n ≤ 16) × (at + n ≤ length (now out)) ⌝ }
     ensures { λ _. ⌜ now (out .exit) ≡ paste (now (out .entry)) at bytes n ⌝ }

@@ -1,24 +1,11 @@
--- Looking for a plan in a list, place by place: what a test and a place looked at say, and one place more.
-use mathlib.Core.Path.{_≡_, sym, ap, subst}
-use mathlib.Core.Bool.{Bool, true, false}
+-- Looking for a plan in a list, place by place: what a place looked at says, and one place more.
+use mathlib.Core.Path.{_≡_, sym, subst}
 use mathlib.Core.Logic.{by-cases}
 use Prim.Native.Nat.{ℕ, _+_, _<_}
 use native.Mathlib.Omega.{arith}
 use native.Mathlib.Decide.{ℕ-discrete}
 use native.Mathlib.Numerals.{add-one}
 use Rattle.regular.specs.SmallestAnswers.{FirstPlace}
-
-pub clash : false ≡ true → ⊥
-clash e = let z : _≡_ {A = ℕ} 0 1 = ap (λ (b : Bool). pick b) e in absurd (omega arith)
-  where
-    pick : Bool → ℕ
-    pick true = 1
-    pick false = 0
-
--- a test of P
-pub record Decides (r : Bool) (P : Type 0) : Type 0 where
-  pub holds : r ≡ true → P
-  pub fails : r ≡ false → P → ⊥
 
 -- the first place so far: found before, or `place` if P
 pub data Looked (found place : ℕ) (P : Type 0) : ℕ → Type 0 where

@@ -1,5 +1,5 @@
 -- A list of plans that nothing is wrong with: its sizes are in bounds and no plan of it has a fault.
-use Prim.Native.Nat.{ℕ, _*_, _/_, _%_, _≤_, _<_}
+use Prim.Native.Nat.{ℕ, _≤_, _<_}
 use mathlib.Core.Path.{_≡_}
 use mathlib.Core.Logic.{inl, inr, by-cases}
 use mathlib.Core.List.{List}
@@ -11,9 +11,11 @@ use Rattle.regular.specs.Designs.{blank}
 use Rattle.regular.specs.Refusals.{Lowest, designFaults, columnsFaults, sizeFaults}
 use Rattle.regular.specs.Accepted.{accepted-sizes}
 use Rattle.regular.specs.RefusalLaws.{lowest-none, none-lowest, size-most, resolution-is, design-faults-most, columns-faults-most}
-use Rattle.regular.specs.PlanLists.{planAt, HasPlan, BytesFault, wantedRecordsFaults, wantedPlansFaults}
+use Rattle.regular.specs.PlanBytes.{planStart, planAt, HasPlan, planCount}
+use Rattle.regular.specs.PlanLists.{BytesFault, wantedRecordsFaults, wantedPlansFaults}
 use Rattle.regular.specs.declared.Design.{Design}
-use Rattle.plan_lists.specs.Judging.{multiple-of, no-multiple, wanted-is}
+use Rattle.plan_layout.specs.Places.{start-whole}
+use Rattle.plan_lists.specs.Judging.{wanted-is}
 
 -- design records
 pub record AcceptedRecords (n g r : ℕ) (list : List Design) : Type 0 where
@@ -33,14 +35,15 @@ records-accepted n g r list l = record {
 -- plans as bytes
 pub record AcceptedPlans (n g r : ℕ) (bytes : List ℕ) : Type 0 where
   pub bounds : Sized n g r
-  pub multiple : length bytes ≡ (length bytes / n) * n
+  pub whole : length bytes ≡ planStart n (planCount n (length bytes))
   pub plan : (i : ℕ) → HasPlan n bytes i → Lowest (columnsFaults n g (planAt n bytes i)) 0
 
 pub plans-accepted : (n g r : ℕ) (bytes : List ℕ) → Lowest (wantedPlansFaults n g r bytes) 0 → AcceptedPlans n g r bytes
 plans-accepted n g r bytes l = record {
   bounds = bounds;
-  multiple = by-cases (ℕ-discrete (length bytes % n) 0) (λ e. multiple-of n (length bytes) (bounds .size .some) e)
-      (λ ne. absurd (none-lowest (wantedPlansFaults n g r bytes) l 4 (inl (inr (inl (BytesFault.count (no-multiple n (length bytes) (bounds .size .some) ne)))))));
+  whole = by-cases (ℕ-discrete (length bytes) (planStart n (planCount n (length bytes)))) (λ e. e)
+      (λ ne. absurd (none-lowest (wantedPlansFaults n g r bytes) l 4
+      (inl (inr (inl (BytesFault.count (λ count e. ne (start-whole n (length bytes) count e))))))));
   plan = λ i h. lowest-none (columnsFaults n g (planAt n bytes i)) (λ k f. none-lowest (wantedPlansFaults n g r bytes) l k (inl (inr (inr (i, (h, f))))));
 }
   where

@@ -1,14 +1,12 @@
 -- One plan's number from its resolution, the number of a list of plans from those of its plans, and what r = 3 adds: nothing.
-use Prim.Native.Nat.{ℕ, suc, _+_, _*_, _-_, _/_, _%_, _≤_, _<_}
-use mathlib.Core.Path.{_≡_, refl, sym, ap, subst, _∙_}
+use Prim.Native.Nat.{ℕ, suc, _+_, _-_, _≤_, _<_}
+use mathlib.Core.Path.{_≡_, refl, sym, subst, _∙_}
 use mathlib.Core.Logic.{_⊎_, inl, inr, ⊎-elim, by-cases}
 use mathlib.Core.List.{List}
 use native.Mathlib.Decide.{ℕ-discrete, decLt}
-use native.Mathlib.Nat.{add-zero, div-add-mod', mul-le-mul-right, suc-mul}
 use native.Mathlib.Numerals.{add-one}
 use native.Mathlib.Omega.{arith}
-use lib.Arith.{digits-mod}
-use lib.ListN.{length, getD, take, drop}
+use lib.ListN.{length, getD}
 use Rattle.regular.specs.Runs.{Runs, switched}
 use Rattle.regular.specs.Given.{Given}
 use Rattle.regular.specs.Words.{NoShort}
@@ -16,13 +14,15 @@ use Rattle.regular.specs.Columns.{planOf}
 use Rattle.regular.specs.Designs.{blank}
 use Rattle.regular.specs.Refusals.{Short, ResolutionFault, ColumnsFault, WantedFault, either, Lowest, sizeFaults}
 use Rattle.regular.specs.RefusalLaws.{lowest-none, lowest-at, lowest-same, lowest-first, lowest-then, lowest-lower, none-lowest, list-is, columns-least, Lower}
-use Rattle.regular.specs.PlanLists.{planAt, HasPlan, BytesFault, ofSome, recordsFaults, plansFaults, wantedRecordsFaults, wantedPlansFaults}
+use Rattle.regular.specs.PlanBytes.{planStart, planAt, planCount}
+use Rattle.regular.specs.PlanLists.{BytesFault, ofSome, recordsFaults, plansFaults, wantedRecordsFaults, wantedPlansFaults}
 use Rattle.regular.specs.declared.Design.{Design}
 use Rattle.regular.specs.declared.Admitted.{Admitted}
 use Rattle.words.specs.Short.{distinct-long}
 use Rattle.words.specs.Switches.{agree-sym, short-agree, short-switched, switched-twice}
 use Rattle.admission.specs.Admission.{Admission, Ready}
-use Rattle.plan_lists.specs.Judged.{wanted, designWanted, columnsWanted, Verdict, Joined, AllJudged}
+use Rattle.plan_layout.specs.Places.{count-held, held-count}
+use Rattle.plan_lists.specs.Judged.{wanted, designWanted, columnsWanted, WantedNumber, JudgedMore, AllJudged}
 
 -- the wanted resolution
 pub wanted-is : (n r : ℕ) (s : Runs) (k : ℕ) → WantedFault n r s k → k ≡ 7
@@ -52,10 +52,10 @@ pub ready-long : {n g : ℕ} {a : List ℕ} → Ready n g a → NoShort n 3 (pla
 ready-long {n} {g} {a} r = distinct-long n (n - g) (planOf n (n - g) a) a (record { form = r .form; plan = record { into = λ x p. p; onto = λ x p. p } }) (r .distinct)
 
 -- a refusal is passed on; an admitted plan is judged
-pub passed-on : (n r : ℕ) (s : Runs) (number : ℕ) → (number ≡ 0 → ⊥) → Verdict n r s number number
+pub passed-on : (n r : ℕ) (s : Runs) (number : ℕ) → (number ≡ 0 → ⊥) → WantedNumber n r s number number
 passed-on n r s number some = record { refused = λ _. refl; admitted = λ e. absurd (some e) }
 
-pub judges : (n r : ℕ) (s : Runs) (number k : ℕ) → number ≡ 0 → Lowest (WantedFault n r s) k → Verdict n r s number k
+pub judges : (n r : ℕ) (s : Runs) (number k : ℕ) → number ≡ 0 → Lowest (WantedFault n r s) k → WantedNumber n r s number k
 judges n r s number k e l = record { refused = λ h. absurd (omega arith); admitted = λ _. l }
 
 -- an admitted plan
@@ -75,7 +75,7 @@ module _ {n g : ℕ} {p : Given} {x : Admitted} (ad : Admission n g p x) where
       WantedFault.short (short-agree n away columns (ad .standard e .plan) r
       (short-switched n (x .run) away r (short-agree n (p .plan) (switched (x .run) away) (agree-sym (switched (x .run) away) (p .plan) back) r w)))
 
-  pub judged : {r k : ℕ} → Verdict n r (planOf n (n - g) (x .columns)) (x .number) k → Lowest (wanted n r p) k
+  pub judged : {r k : ℕ} → WantedNumber n r (planOf n (n - g) (x .columns)) (x .number) k → Lowest (wanted n r p) k
   judged {r} {k} v =
       by-cases (ℕ-discrete (x .number) 0)
       (λ e. lowest-then (p .faults) (WantedFault n r (p .plan)) k (subst (Lowest (p .faults)) e (ad .lowest))
@@ -85,7 +85,7 @@ module _ {n g : ℕ} {p : Given} {x : Admitted} (ad : Admission n g p x) where
       (λ j f. omega (arith, wanted-is n r (p .plan) j f, ad .most (x .number) (ad .lowest .applies (omega arith))))))
 
 -- one plan more
-module _ (S : ℕ → Type 0) (fault : ℕ → ℕ → Type 0) (count lowest k : ℕ) (low : Lowest (either S (ofSome (λ i. i < count) fault)) lowest) (j : Joined (fault count) lowest k) where
+module _ (S : ℕ → Type 0) (fault : ℕ → ℕ → Type 0) (count lowest k : ℕ) (low : Lowest (either S (ofSome (λ i. i < count) fault)) lowest) (j : JudgedMore (fault count) lowest k) where
   abbrev FaultsBefore : ℕ → Type 0
   FaultsBefore = either S (ofSome (λ i. i < count) fault)
 
@@ -174,59 +174,37 @@ module _ (n g r : ℕ) (bytes : List ℕ) where
   plans-sizes k some low l = lowest-at (wantedPlansFaults n g r bytes) k (omega arith) (⊎-elim (λ s. inl (inl s)) (λ f. inr (inl f)) (l .applies (omega arith)))
       (λ j f. ⊎-elim (λ s. l .least j s .1) (λ h. omega arith) (later j f))
 
-  pub plans-four : Lowest (sizeFaults n g r) 0 → ((count : ℕ) → length bytes ≡ count * n → ⊥) → Lowest (wantedPlansFaults n g r bytes) 4
+  pub plans-four : Lowest (sizeFaults n g r) 0 → ((count : ℕ) → length bytes ≡ planStart n count → ⊥) → Lowest (wantedPlansFaults n g r bytes) 4
   plans-four l h = lowest-at (wantedPlansFaults n g r bytes) 4 (omega arith) (inl (inr (inl (BytesFault.count h))))
       (λ j f. ⊎-elim (λ s. absurd (none-lowest (sizeFaults n g r) l j s)) (λ h. h) (later j f))
 
   -- the turns
   pub judged-none : Lowest (sizeFaults n g r) 0 → AllJudged n g r bytes 0 0
-  judged-none l = record { count = 0; place = omega arith; lowest = joined-none (sizeFaults n g r) (λ i. columnsWanted n g r (planAt n bytes i)) 0 l }
+  judged-none l = joined-none (sizeFaults n g r) (λ i. columnsWanted n g r (planAt n bytes i)) 0 l
 
-  module _ (whole : ℕ) (multiple : length bytes ≡ whole * n) (some : 1 ≤ n) where
-    -- a plan begins at a place within the bytes exactly if it is one of them
-    few : (i : ℕ) → i * n < whole * n → i < whole
-    few i h = by-cases (decLt i whole) (λ l. l) (λ l. absurd (omega (arith, mul-le-mul-right {m = whole} {n = i} n (omega arith))))
+  pub judged-more : {i k number lowest : ℕ} {plan : List ℕ} → AllJudged n g r bytes i lowest → plan ≡ planAt n bytes i
+      → Lowest (columnsWanted n g r plan) number → Lower lowest number k → AllJudged n g r bytes (i + 1) k
+  judged-more {i} {k} {number} {lowest} {plan} a e own low =
+      joined-next (sizeFaults n g r) (λ j. columnsWanted n g r (planAt n bytes j)) i lowest k a
+      (record { number = number; own = subst (λ (c : List ℕ). Lowest (columnsWanted n g r c) number) e own; lower = low })
 
-    many : (i : ℕ) → i < whole → i * n + n ≤ length bytes
-    many i h = omega (arith, suc-mul i n, mul-le-mul-right {m = suc i} {n = whole} n h)
+  -- all plans of bytes that are whole plans
+  module _ (whole : length bytes ≡ planStart n (planCount n (length bytes))) (some : 1 ≤ n) where
+    abbrev count : ℕ
+    count = planCount n (length bytes)
 
-    pub judged-room : {base k : ℕ} → AllJudged n g r bytes base k → base < length bytes → base + n ≤ length bytes
-    judged-room a h = omega (arith, a .place, many (a .count) (few (a .count) (omega (arith, a .place))))
+    all-into : (j : ℕ) → either (sizeFaults n g r) (EachPlan count) j → wantedPlansFaults n g r bytes j
+    all-into j (inl (inl s)) = inl (inl s)
+    all-into j (inl (inr f)) = inr (inl f)
+    all-into j (inr (i, (l, inl f))) = inl (inr (inr (i, (count-held n (length bytes) i l, f))))
+    all-into j (inr (i, (l, inr f))) = inr (inr (i, (count-held n (length bytes) i l, f)))
 
-    pub judged-more : {base k number lowest : ℕ} {part : List ℕ} → AllJudged n g r bytes base lowest → part ≡ take n (drop base bytes)
-        → Lowest (columnsWanted n g r part) number → Lower lowest number k → AllJudged n g r bytes (base + n) k
-    judged-more {base} {k} {number} {lowest} {part} a e own low = record {
-      count = suc (a .count);
-      place = omega (arith, a .place, suc-mul (a .count) n);
-      lowest = joined (sizeFaults n g r) (λ i. columnsWanted n g r (planAt n bytes i)) (a .count) lowest k (a .lowest)
-          (record { number = number; own = subst (λ (c : List ℕ). Lowest (columnsWanted n g r c) number) (e ∙ ap (λ (b : ℕ). take n (drop b bytes)) (a .place)) own; lower = low });
-    }
+    all-onto : (j : ℕ) → wantedPlansFaults n g r bytes j → either (sizeFaults n g r) (EachPlan count) j
+    all-onto j (inl (inl s)) = inl (inl s)
+    all-onto j (inl (inr (inl (BytesFault.count h)))) = absurd (h count whole)
+    all-onto j (inl (inr (inr (i, (l, f))))) = inr (i, (held-count n (length bytes) i some l, inl f))
+    all-onto j (inr (inl f)) = inl (inr f)
+    all-onto j (inr (inr (i, (l, f)))) = inr (i, (held-count n (length bytes) i some l, inr f))
 
-    pub judged-all : (k : ℕ) → AllJudged n g r bytes (length bytes) k → Lowest (wantedPlansFaults n g r bytes) k
-    judged-all k a = lowest-same (either (sizeFaults n g r) (EachPlan (a .count))) (wantedPlansFaults n g r bytes) k into onto (a .lowest)
-      where
-        inside : (i : ℕ) → i < a .count → HasPlan n bytes i
-        inside i h = omega (arith, a .place, mul-le-mul-right {m = suc i} {n = a .count} n h)
-
-        outside : (i : ℕ) → HasPlan n bytes i → i < a .count
-        outside i h = by-cases (decLt i (a .count)) (λ l. l) (λ l. absurd (omega (arith, a .place, suc-mul i n, mul-le-mul-right {m = a .count} {n = i} n (omega arith))))
-
-        into : (j : ℕ) → either (sizeFaults n g r) (EachPlan (a .count)) j → wantedPlansFaults n g r bytes j
-        into j (inl (inl s)) = inl (inl s)
-        into j (inl (inr f)) = inr (inl f)
-        into j (inr (i, (l, inl f))) = inl (inr (inr (i, (inside i l, f))))
-        into j (inr (i, (l, inr f))) = inr (inr (i, (inside i l, f)))
-
-        onto : (j : ℕ) → wantedPlansFaults n g r bytes j → either (sizeFaults n g r) (EachPlan (a .count)) j
-        onto j (inl (inl s)) = inl (inl s)
-        onto j (inl (inr (inl (BytesFault.count h)))) = absurd (h whole multiple)
-        onto j (inl (inr (inr (i, (l, f))))) = inr (i, (outside i l, inl f))
-        onto j (inr (inl f)) = inl (inr f)
-        onto j (inr (inr (i, (l, f)))) = inr (i, (outside i l, inr f))
-
--- whether the bytes are a multiple of n
-pub multiple-of : (n len : ℕ) → 1 ≤ n → len % n ≡ 0 → len ≡ (len / n) * n
-multiple-of n len h e = omega (arith, div-add-mod' len n)
-
-pub no-multiple : (n len : ℕ) → 1 ≤ n → (len % n ≡ 0 → ⊥) → (count : ℕ) → len ≡ count * n → ⊥
-no-multiple n len h ne count e = ne (ap (λ (k : ℕ). k % n) (e ∙ sym (add-zero (count * n))) ∙ digits-mod count {m = n} {r = 0} h)
+    pub judged-all : (k : ℕ) → AllJudged n g r bytes count k → Lowest (wantedPlansFaults n g r bytes) k
+    judged-all k a = lowest-same (either (sizeFaults n g r) (EachPlan count)) (wantedPlansFaults n g r bytes) k all-into all-onto a

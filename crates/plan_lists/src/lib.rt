@@ -1,23 +1,26 @@
 // Lists of plans, as design records or as bytes: the lowest number that the sizes or any plan of the list is refused by, a resolution r being
-// wanted. Public for the smallest form's place in a list and for the book; a call that takes no resolution calls with r = 3 (`three-records`,
-// `three-plans`).
+// wanted. Where none is, r is 3, which adds nothing (`three-records`, `three-plans`).
 ghost use mathlib.Core.Path.{_≡_};
-ghost use Prim.Native.Nat.{ℕ, _*_, _-_, _≤_};
+ghost use Prim.Native.Nat.{_-_};
 ghost use lib.ListN.{length};
 ghost use Rattle.regular.specs.Columns.{planOf};
 ghost use Rattle.regular.specs.Refusals.{Lowest, sizeFaults};
+ghost use Rattle.regular.specs.PlanBytes.{planCount};
 ghost use Rattle.regular.specs.PlanLists.{wantedRecordsFaults, wantedPlansFaults};
 ghost use Rattle.admission.specs.Admission.{Ready};
-ghost use Rattle.plan_lists.specs.Judged.{Verdict, designWanted, columnsWanted, Joined, AllJudged};
+ghost use Rattle.plan_lists.specs.Judged.{WantedNumber, designWanted, columnsWanted, JudgedMore, AllJudged};
 use admission::bounds_number;
 use admission::lower_of;
+use plan_layout::plan_at;
+use plan_layout::plan_count;
+use plan_layout::whole_plans;
 use regular::Admitted;
 use regular::Design;
 
 // An admitted plan where the resolution r is wanted: its own number, or 7 if a word is shorter than r. An admitted plan has none shorter than 3.
 fn wanted(n: usize, g: usize, r: usize, plan: Admitted) -> u8
     requires { ⌜ (plan .number ≡ 0 → Ready n g (plan .columns)) ⌝ }
-    ensures { λ k. ⌜ Verdict n r (planOf n (n - g) (plan .columns)) (plan .number) k ⌝ }
+    ensures { λ k. ⌜ WantedNumber n r (planOf n (n - g) (plan .columns)) (plan .number) k ⌝ }
 {
     let number = plan.number;
     if number != 0 {
@@ -52,7 +55,7 @@ pub fn columns_refusal(n: usize, g: usize, r: usize, list: &[u8]) -> u8
 
 // One record more: the lower of its number and that of the records before it.
 fn judge(n: usize, g: usize, r: usize, design: Design, lowest: u8) -> u8
-    ensures { λ k. ⌜ Joined (designWanted n g r design) lowest k ⌝ }
+    ensures { λ k. ⌜ JudgedMore (designWanted n g r design) lowest k ⌝ }
 {
     let number = design_refusal(n, g, r, design);
     lower_of(lowest, number)
@@ -72,23 +75,24 @@ pub fn records_refusal(n: usize, g: usize, r: usize, list: &[Design]) -> u8
     lowest
 }
 
-// The lowest number of any plan of a list of bytes that is a multiple of n, the sizes being in bounds.
+// The lowest number of any plan of a list of bytes, the sizes being in bounds.
 fn each_refusal(n: usize, g: usize, r: usize, plans: &[u8]) -> u8
-    requires { ⌜ (1 ≤ n) × Lowest (sizeFaults n g r) 0 × ((count : ℕ) × (length (now plans) ≡ count * n)) ⌝ }
-    ensures { λ k. ⌜ AllJudged n g r (now (plans .entry)) (length (now (plans .entry))) k ⌝ }
+    requires { ⌜ Lowest (sizeFaults n g r) 0 ⌝ }
+    ensures { λ k. ⌜ AllJudged n g r (now (plans .entry)) (planCount n (length (now (plans .entry)))) k ⌝ }
 {
+    let count = plan_count(n, plans.len());
     let mut lowest: u8 = 0;
-    let mut base: usize = 0;
-    while base < plans.len() {
-        let end = base + n;
-        let number = columns_refusal(n, g, r, &plans[base..end]);
+    let mut i: usize = 0;
+    while i < count {
+        let plan = plan_at(n, plans, i);
+        let number = columns_refusal(n, g, r, plan);
         lowest = lower_of(lowest, number);
-        base = end;
+        i += 1;
     }
     lowest
 }
 
-// The lowest number of any plan of a list of bytes, n a plan, of its length, or of the sizes.
+// The lowest number of any plan of a list of bytes, of its length, or of the sizes.
 pub fn plans_refusal(n: usize, g: usize, r: usize, plans: &[u8]) -> u8
     ensures { λ k. ⌜ Lowest (wantedPlansFaults n g r (now (plans .entry))) k ⌝ }
 {
@@ -96,7 +100,7 @@ pub fn plans_refusal(n: usize, g: usize, r: usize, plans: &[u8]) -> u8
     if number != 0 {
         return number;
     }
-    if plans.len() % n != 0 {
+    if !whole_plans(n, plans.len()) {
         return 4;
     }
     each_refusal(n, g, r, plans)

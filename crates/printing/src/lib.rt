@@ -1,11 +1,10 @@
-// What the program `plans` prints for a line, all of it, in a lent list of bytes. Public for the program.
-ghost use mathlib.Core.Path.{_≡_};
+// What the program `plans` prints for a line, all of it, in a lent list of bytes.
 ghost use Prim.Native.Nat.{_≤_};
 ghost use lib.ListN.{length, replicate};
-ghost use Rattle.regular.specs.Designs.{blank};
 ghost use Rattle.regular.specs.Catalogues.{ListsDesigns};
 ghost use Rattle.printed_lines.specs.Text.{headerMost, outputRoom};
 ghost use Rattle.printing.specs.Output.{EntryLines, SizeOutput, Output, Printed, AllListable};
+use plan_layout::blank_design;
 use printed_lines::entry_line;
 use printed_lines::header_line;
 use printed_lines::no_size_line;
@@ -18,17 +17,6 @@ use size_lines::parse;
 struct Filled {
     answer: CatalogueAnswer,
     list: [Design; 1024],
-}
-
-// The record that stands in the list at first.
-fn begin() -> Design
-    ensures { λ r. ⌜ r ≡ blank ⌝ }
-{
-    Design {
-        factors: 0,
-        basics: 0,
-        columns: [0u8; 16],
-    }
 }
 
 // The catalogue of a size, in a list of 1,024 records, each d at first.
@@ -67,7 +55,7 @@ fn size_output(n: usize, g: usize, r: usize, out: &mut [u8]) -> usize
     requires { ⌜ outputRoom ≤ length (now out) ⌝ }
     ensures { λ res. ⌜ Printed (SizeOutput n g r) (now (out .entry)) (now (out .exit)) res ⌝ }
 {
-    let d = begin();
+    let d = blank_design();
     let filled = fill(n, g, r, d);
     let answer = filled.answer;
     let number = answer.number;

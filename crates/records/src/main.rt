@@ -95,11 +95,9 @@ fn design_at(list: &[u16], p: usize) -> Design
 {
     let mut columns = [0u8; 16];
     copy_bytes(list, p + 2, &mut columns);
-    Design {
-        factors: byte_at(list, p),
-        basics: byte_at(list, p + 1),
-        columns,
-    }
+    let factors = bits::as_index(byte_at(list, p));
+    let basics = bits::as_index(byte_at(list, p + 1));
+    plan_layout::design(factors, basics, columns)
 }
 
 // A number after a space.

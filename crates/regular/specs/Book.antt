@@ -9,7 +9,8 @@ use Rattle.regular.specs.Designs.{blank}
 use Rattle.regular.specs.Pattern.{Pattern, ofLength}
 use Rattle.regular.specs.Refusals.{LentFault, either, Lowest}
 use Rattle.regular.specs.Given.{ofColumns, ofDesign}
-use Rattle.regular.specs.PlanLists.{planAt, wantedRecordsFaults, wantedPlansFaults}
+use Rattle.regular.specs.PlanBytes.{planAt, planCount}
+use Rattle.regular.specs.PlanLists.{wantedRecordsFaults, wantedPlansFaults}
 use Rattle.regular.specs.declared.Design.{Design}
 
 -- how many values a byte has
@@ -120,7 +121,7 @@ pub record Writes (plans : ℕ → Type 0) (n g r count : ℕ) (entry : ℕ → 
 -- of plans as bytes, and of design records
 abbrev pub WritesPlans : ℕ → ℕ → ℕ → List ℕ → List ℕ → List ℕ → ℕ → ℕ → Type 0
 WritesPlans n g r plans =
-    Writes (wantedPlansFaults n g r plans) n g r (length plans / n) (λ i. entryOfColumns n g (planAt n plans i))
+    Writes (wantedPlansFaults n g r plans) n g r (planCount n (length plans)) (λ i. entryOfColumns n g (planAt n plans i))
 
 abbrev pub WritesDesigns : ℕ → ℕ → ℕ → List Design → List ℕ → List ℕ → ℕ → ℕ → Type 0
 WritesDesigns n g r list = Writes (wantedRecordsFaults n g r list) n g r (length list) (λ i. entryOfDesign n g (getD list i blank))

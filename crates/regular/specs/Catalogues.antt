@@ -1,9 +1,10 @@
 -- What the catalogue's call answers, and what the lent list holds (document 01, "Same plan, smallest form, catalogue"). Definitions only.
 use mathlib.Core.Path.{_≡_}
 use mathlib.Core.List.{List}
-use Prim.Native.Nat.{ℕ, suc, _*_, _-_, _≤_, _<_}
+use Prim.Native.Nat.{ℕ, suc, _-_, _≤_, _<_}
 use lib.ListN.{length, getD, drop}
 use Rattle.regular.specs.Designs.{Holds, blank}
+use Rattle.regular.specs.PlanBytes.{planStart, planAt}
 use Rattle.regular.specs.Refusals.{Lowest, RoomFault, either, sizeFaults}
 use Rattle.regular.specs.Smallest.{Equal, Entry, Catalogue}
 use Rattle.regular.specs.declared.Design.{Design}
@@ -27,10 +28,10 @@ pub record Catalogues (n g r : ℕ) (room : ℕ → Type 0) (entry : ℕ → Lis
   pub begins : number ≡ 9 → Begins n (n - g) r room entry count
   pub none : 0 < number → number < 9 → count ≡ 0
 
--- a list of bytes, n columns an entry, one after another; from `before` to `after`, untouched past the entries
+-- a list of bytes, entry i at plan i; from `before` to `after`, untouched past the entries
 pub record ListsBytes (n g r : ℕ) (before after : List ℕ) (number count : ℕ) : Type 0 where
-  pub catalogues : Catalogues n g r (λ k. k * n ≤ length before) (λ i. drop (i * n) after) number count
-  pub rest : drop (count * n) after ≡ drop (count * n) before
+  pub catalogues : Catalogues n g r (λ k. planStart n k ≤ length before) (planAt n after) number count
+  pub rest : drop (planStart n count) after ≡ drop (planStart n count) before
   pub size : length after ≡ length before
 
 -- a list of design records, each of n factors and n - g basics, its columns an entry and those past n zero

@@ -14,10 +14,17 @@ pub record Holds (n m : ℕ) (Wanted : List ℕ → Type 0) (d : Design) : Type 
   pub columns : Wanted (d .columns)
   pub unused : (f : ℕ) → n ≤ f → f < 16 → getD (d .columns) f 0 ≡ 0
 
+-- the record of n factors, m basics and sixteen columns
+abbrev pub designOf : ℕ → ℕ → List ℕ → Design
+designOf n m c = record { factors = n; basics = m; columns = c }
+
 -- the record of a refused call
 abbrev pub blank : Design
-blank = record { factors = 0; basics = 0; columns = replicate 16 0 }
+blank = designOf 0 0 (replicate 16 0)
 
--- a record takes 18 bytes: the offset of an element within a lent list fits 64 bits
-pub offset-fits : (i n : ℕ) → i < n → n * 18 < 2 ^ 63 → i * 18 < 2 ^ 64
-offset-fits i n l r = lt-of-le-of-lt (mul-le-mul-right 18 (le-of-lt l)) (lt-trans r (lit< tt))
+-- how many bytes a record takes: the offset of an element within a lent list fits 64 bits
+abbrev pub designBytes : ℕ
+designBytes = 18
+
+pub offset-fits : (i n : ℕ) → i < n → n * designBytes < 2 ^ 63 → i * designBytes < 2 ^ 64
+offset-fits i n l r = lt-of-le-of-lt (mul-le-mul-right designBytes (le-of-lt l)) (lt-trans r (lit< tt))

@@ -1,25 +1,18 @@
 -- Several plans in one list, as design records or as their columns' bytes one after another: what is turned away, under which number (document 01's
 -- table). Definitions only.
-use Prim.Native.Nat.{ℕ, suc, _*_, _≤_, _<_}
+use Prim.Native.Nat.{ℕ, _<_}
 use mathlib.Core.Path.{_≡_}
 use mathlib.Core.List.{List}
-use lib.ListN.{length, getD, take, drop}
+use lib.ListN.{length, getD}
 use Rattle.regular.specs.Designs.{blank}
+use Rattle.regular.specs.PlanBytes.{planStart, planAt, HasPlan}
 use Rattle.regular.specs.Refusals.{SizeFault, ResolutionFault, WantedFault, either}
 use Rattle.regular.specs.Given.{ofDesign, ofColumns}
 use Rattle.regular.specs.declared.Design.{Design}
 
--- plan i of the bytes: the n columns from place i * n on
-abbrev pub planAt : ℕ → List ℕ → ℕ → List ℕ
-planAt n bytes i = take n (drop (i * n) bytes)
-
--- the bytes hold a plan i
-abbrev pub HasPlan : ℕ → List ℕ → ℕ → Type 0
-HasPlan n bytes i = suc i * n ≤ length bytes
-
--- 4: the bytes are no multiple of n
+-- 4: the bytes are not whole plans
 pub data BytesFault (n : ℕ) (bytes : List ℕ) : ℕ → Type 0 where
-  count : ((count : ℕ) → length bytes ≡ count * n → ⊥) → BytesFault n bytes 4
+  count : ((count : ℕ) → length bytes ≡ planStart n count → ⊥) → BytesFault n bytes 4
 
 -- the faults of some plan of a list, plan i of which, where there is one, has the faults `fault i`
 abbrev pub ofSome : (ℕ → Type 0) → (ℕ → ℕ → Type 0) → ℕ → Type 0

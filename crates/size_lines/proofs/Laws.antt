@@ -1,16 +1,14 @@
 -- Reading a line that gives a size: a digit, a number of one or two digits, and the three numbers of a size.
-use mathlib.Core.Path.{_≡_, refl, sym, ap, subst, _∙_}
+use mathlib.Core.Path.{_≡_, refl, sym, ap, subst}
 use mathlib.Core.Bool.{Bool, true, false}
 use mathlib.Core.List.{List, [], _∷_}
 use Prim.Native.Nat.{ℕ, zero, suc, _+_, _*_, _≤_, _<_}
 use native.Mathlib.Nat.{not-suc-le-zero, le-of-suc-le-suc}
 use lib.ListN.{length, getD}
 use native.Mathlib.Omega.{arith}
+use Rattle.gf2.specs.Truth.{clash}
 use Rattle.size_lines.specs.Lines.{Digit, Number, one, two, SizeLine, DigitIs, SpaceIs, Part, Parsed}
 use Rattle.size_lines.specs.declared.LineSize.{LineSize}
-
-clash : false ≡ true → ⊥
-clash e = let z : _≡_ {A = ℕ} 0 1 = cc in absurd (omega (arith, z))
 
 past : (l : List ℕ) (p : ℕ) → length l ≤ p → getD l p 0 ≡ 0
 past [] p h = refl
@@ -28,7 +26,7 @@ digit-past l p h =
 pub space-past : (l : List ℕ) (p : ℕ) → length l ≤ p → SpaceIs l p false
 space-past l p h =
     record {
-      some = λ e. absurd (clash e);
+      some = λ e. absurd (clash e refl);
       none = λ _ b. let z = past l p h in omega (arith, z, b);
     }
 
@@ -36,13 +34,13 @@ pub space-is : (l : List ℕ) (p : ℕ) → getD l p 0 ≡ 32 → SpaceIs l p tr
 space-is l p h =
     record {
       some = λ _. h;
-      none = λ e. absurd (clash (sym e));
+      none = λ e. absurd (clash refl e);
     }
 
 pub space-not : (l : List ℕ) (p : ℕ) → (getD l p 0 ≡ 32 → ⊥) → SpaceIs l p false
 space-not l p h =
     record {
-      some = λ e. absurd (clash e);
+      some = λ e. absurd (clash e refl);
       none = λ _. h;
     }
 
@@ -116,7 +114,7 @@ None l = (x y z : ℕ) → SizeLine l x y z → ⊥
 pub refuse : (l : List ℕ) (s : LineSize) → s ≡ record { ok = false; n = 0; g = 0; r = 0 } → None l → Parsed l (s .ok) (s .n) (s .g) (s .r)
 refuse l s h none =
     record {
-      size = λ t. absurd (clash (sym (ap (λ (x : LineSize). x .ok) h) ∙ t));
+      size = λ t. absurd (clash t (ap (λ (x : LineSize). x .ok) h));
       none = λ _. none;
       zeros = λ _. (ap (λ (x : LineSize). x .n) h, ap (λ (x : LineSize). x .g) h, ap (λ (x : LineSize). x .r) h);
     }
@@ -156,6 +154,6 @@ gives l v e w f u k P Q R h i j S T z =
             space2 = T;
             third = subst (Number l (f + 1) u) z (R .some j);
           };
-      none = λ t. absurd (clash (sym t));
-      zeros = λ t. absurd (clash (sym t));
+      none = λ t. absurd (clash refl t);
+      zeros = λ t. absurd (clash refl t);
     }

@@ -34,7 +34,7 @@ use Rattle.regular.specs.Refusals.{Lowest}
 use Rattle.regular.specs.SmallestAnswers.{DesignPlace}
 use Rattle.regular.specs.declared.Design.{Design}
 use Rattle.regular.specs.declared.SmallestAnswer.{SmallestAnswer}
-use Rattle.smallest_calls.specs.Placed.{Placed}
+use Rattle.smallest_calls.specs.Placed.{WithPlace}
 use Rattle.regular.proofs.Design as T
 use Rattle.regular.proofs.Design.Laws as T′
 use Rattle.regular.proofs.SmallestAnswer as S
@@ -86,8 +86,8 @@ module _ {M : Type 1} (𝓤 : URA M) (H : Heap 𝓤) (A : Atoms 𝓤) (mem : Mem
   find-of κ x d p = exE 𝓤 _ (λ ws. snd∗ 𝓤 (sem 𝓤 H A (lasts find.ended (κ, tt) (x, (d, tt)) ws)) (fact 𝓤 (DesignPlace (x .now) d p)))
 
   pub place-of : (u : SmallestAnswer) (p : ℕ) (r : SmallestAnswer)
-      → ent 𝓤 (ensured 𝓤 H A place.ended (place.clauses 𝓤 H A mem run) tt (u, (p, tt)) tt r) (fact 𝓤 (Placed u p r))
-  place-of u p r = exE 𝓤 _ (λ ws. snd∗ 𝓤 (sem 𝓤 H A (lasts place.ended tt (u, (p, tt)) ws)) (fact 𝓤 (Placed u p r)))
+      → ent 𝓤 (ensured 𝓤 H A place.ended (place.clauses 𝓤 H A mem run) tt (u, (p, tt)) tt r) (fact 𝓤 (WithPlace u p r))
+  place-of u p r = exE 𝓤 _ (λ ws. snd∗ 𝓤 (sem 𝓤 H A (lasts place.ended tt (u, (p, tt)) ws)) (fact 𝓤 (WithPlace u p r)))
 
   -- the list, lent for κ
   module _ (W : Given 𝓤 H A) (κ : Lft) (q : Share) (b o : ℕ) (γ : GName) (ys : List Design) where

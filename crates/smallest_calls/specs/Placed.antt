@@ -29,7 +29,7 @@ pub record Shown (number place at : ℕ) : Type 0 where
   pub refused : 0 < number → at ≡ 0
 
 -- a form with its place
-pub record Placed (form : SmallestAnswer) (place : ℕ) (r : SmallestAnswer) : Type 0 where
+pub record WithPlace (form : SmallestAnswer) (place : ℕ) (r : SmallestAnswer) : Type 0 where
   pub at : ℕ
   pub shown : Shown (form .number) place at
   pub is : r ≡ record { number = form .number; mask = form .mask; place = at; design = form .design }
@@ -81,7 +81,7 @@ formed-accepted {n} {g} {p} {ys} {zs} {form} f low h =
 
 -- in a list of records
 pub formed-among : {n g : ℕ} {p : Given} {other : ℕ} {ys zs : List ℕ} {form : SmallestAnswer} (list : List Design)
-    → Lowest (recordsFaults n g list) other → ReducesBeside n g p other ys zs form → (place : ℕ) (r : SmallestAnswer) → DesignPlace list (form .design) place → Placed form place r
+    → Lowest (recordsFaults n g list) other → ReducesBeside n g p other ys zs form → (place : ℕ) (r : SmallestAnswer) → DesignPlace list (form .design) place → WithPlace form place r
     → ReducesAmong n g p list ys zs r
 formed-among {n} {g} {p} {other} {ys} {zs} {form} list low f place r at q =
     let b = f .made in

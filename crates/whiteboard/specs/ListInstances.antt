@@ -3,14 +3,15 @@
 use mathlib.Core.Path.{_≡_, refl, sym, subst}
 use mathlib.Core.Logic.{⊎-elim, inl, inr, by-cases}
 use mathlib.Core.List.{List, [], _∷_}
-use Prim.Native.Nat.{ℕ, _*_, _≤_, _<_}
+use Prim.Native.Nat.{ℕ, _≤_, _<_}
 use native.Mathlib.Omega.{arith}
 use native.Mathlib.Decide.{ℕ-discrete}
-use lib.ListN.{getD, drop}
+use lib.ListN.{getD}
 use Rattle.regular.specs.Catalogues.{ListsBytes, ListsDesigns, catalogueFaults}
 use Rattle.regular.specs.Columns.{planOf}
 use Rattle.regular.specs.Designs.{Holds, blank}
 use Rattle.regular.specs.declared.Design.{Design}
+use Rattle.regular.specs.PlanBytes.{planStart, planAt}
 use Rattle.regular.specs.PlanLists.{wantedRecordsFaults, wantedPlansFaults}
 use Rattle.regular.specs.RefusalLaws.{lowest-none, lowest-at}
 use Rattle.regular.specs.Refusals.{ResolutionFault, RoomFault, WantedFault, sizeFaults, Lowest}
@@ -78,10 +79,10 @@ pub lists-bytes : ListsBytes 4 1 3 nines listed 0 2
 unfolding below
 lists-bytes = record {
   catalogues = record {
-    lowest = accepted-room (λ k. k * 4 ≤ 9) (omega arith);
-    whole = λ e. catalogue-like (λ i. drop (i * 4) listed)
-        (agree-at (λ f. getD abc f 0) (λ f. getD (drop (0 * 4) listed) f 0) 4 refl)
-        (agree-at (λ f. getD abcd f 0) (λ f. getD (drop (1 * 4) listed) f 0) 4 refl);
+    lowest = accepted-room (λ k. planStart 4 k ≤ 9) (omega arith);
+    whole = λ e. catalogue-like (planAt 4 listed)
+        (agree-at (λ f. getD abc f 0) (λ f. getD (planAt 4 listed 0) f 0) 4 refl)
+        (agree-at (λ f. getD abcd f 0) (λ f. getD (planAt 4 listed 1) f 0) 4 refl);
     fits = λ e. omega arith;
     begins = λ e. absurd (omega arith);
     none = λ h l. absurd (omega arith);
@@ -105,13 +106,13 @@ pub lists-nine : ListsBytes 4 1 3 (9 ∷ 9 ∷ 9 ∷ 9 ∷ 9 ∷ []) begun 9 1
 unfolding below
 lists-nine = record {
   catalogues = record {
-    lowest = refused-room (λ k. k * 4 ≤ 5) (λ l. omega arith);
+    lowest = refused-room (λ k. planStart 4 k ≤ 5) (λ l. omega arith);
     whole = λ e. absurd (omega arith);
     fits = λ e. absurd (omega arith);
     begins = λ e. record {
       fits = omega arith;
       full = λ l. omega arith;
-      first = λ total all c. begin-first total all c (λ i. drop (i * 4) begun) (agree-at (λ f. getD (drop (0 * 4) begun) f 0) (λ f. getD abc f 0) 4 refl);
+      first = λ total all c. begin-first total all c (planAt 4 begun) (agree-at (λ f. getD (planAt 4 begun 0) f 0) (λ f. getD abc f 0) 4 refl);
     };
     none = λ h l. absurd (omega arith);
   };
@@ -123,7 +124,7 @@ lists-nine = record {
 pub lists-three : ListsBytes 4 1 2 (9 ∷ []) (9 ∷ []) 3 0
 lists-three = record {
   catalogues = record {
-    lowest = lowest-at (catalogueFaults 4 1 2 (λ k. k * 4 ≤ 1)) 3 (omega arith) (inl (inr (ResolutionFault.outside (inl (omega arith)))))
+    lowest = lowest-at (catalogueFaults 4 1 2 (λ k. planStart 4 k ≤ 1)) 3 (omega arith) (inl (inr (ResolutionFault.outside (inl (omega arith)))))
         (λ k f. ⊎-elim (λ s. ⊎-elim (λ q. absurd (size-none 4 1 size-4 k q)) (three k) s) (nine k) f);
     whole = λ e. absurd (omega arith);
     fits = λ e. absurd (omega arith);
@@ -137,7 +138,7 @@ lists-three = record {
     three : (k : ℕ) → ResolutionFault 2 k → 3 ≤ k
     three k (ResolutionFault.outside h) = omega arith
 
-    nine : (k : ℕ) → RoomFault 4 3 2 (λ k. k * 4 ≤ 1) k → 3 ≤ k
+    nine : (k : ℕ) → RoomFault 4 3 2 (λ k. planStart 4 k ≤ 1) k → 3 ≤ k
     nine k (RoomFault.more total all c n) = omega arith
 
 -- records: three places for two entries, the last untouched

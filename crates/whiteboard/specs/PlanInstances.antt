@@ -3,7 +3,7 @@
 use mathlib.Core.Path.{_≡_, refl, sym, ap, subst, _∙_}
 use mathlib.Core.Logic.{⊎-elim, inl, inr, by-cases}
 use mathlib.Core.List.{List, [], _∷_, _++_}
-use Prim.Native.Nat.{ℕ, zero, suc, _^_, _≤_, _<_}
+use Prim.Native.Nat.{ℕ, zero, suc, _+_, _^_, _≤_, _<_}
 use native.Mathlib.Omega.{arith}
 use native.Mathlib.Decide.{ℕ-discrete}
 use borrow.Author.Tests.{ltb-true}
@@ -18,7 +18,7 @@ use Rattle.regular.specs.Runs.{runsOf, switched, Regular, Table}
 use Rattle.regular.specs.Words.{Word, NoShort, Generated, total, Independent, Last, Reduced}
 use Rattle.regular.specs.Columns.{runOf, planOf, Below, Column, Spans, Listed, RunTable, Basic, StandardColumns, RunsOfPlan}
 use Rattle.regular.specs.Pattern.{Pattern, sumTo, Resolution, Distances, Better, LessAberration, ofLength}
-use Rattle.regular.specs.Designs.{Holds}
+use Rattle.regular.specs.Designs.{Holds, designOf, designBytes}
 use Rattle.regular.specs.Comparisons.{Witness}
 use Rattle.regular.specs.Refusals.{Short}
 use Rattle.regular.specs.Same.{moved, Renaming, Same}
@@ -278,6 +278,13 @@ recordABC = record { factors = 4; basics = 3; columns = abc ++ replicate 12 0 }
 
 abbrev pub recordABCD : Design
 recordABCD = record { factors = 4; basics = 3; columns = abcd ++ replicate 12 0 }
+
+pub design-abc : designOf 4 3 (abc ++ replicate 12 0) ≡ recordABC
+design-abc = refl
+
+-- two counts and sixteen columns, a byte each
+pub design-bytes : designBytes ≡ 2 + 16
+design-bytes = refl
 
 pub holds-abc : Holds 4 3 (Entry 4 3 3) recordABC
 unfolding below

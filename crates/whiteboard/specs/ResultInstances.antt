@@ -6,13 +6,14 @@ use Prim.Native.Nat.{ℕ, _<_}
 use native.Mathlib.Omega.{arith}
 use native.Mathlib.Decide.{ℕ-discrete}
 use lib.Count.{ones, onesIn}
-use lib.ListN.{getD}
+use lib.ListN.{length, getD}
 use Rattle.standard.specs.Runs.{plan-cols}
 use Rattle.gf2.specs.Digits.{odd}
 use Rattle.gf2.specs.Lists.{listTo}
 use Rattle.regular.specs.Columns.{planOf, runOf}
 use Rattle.regular.specs.Designs.{blank}
-use Rattle.regular.specs.PlanLists.{planAt, HasPlan, BytesFault, recordsFaults, plansFaults}
+use Rattle.regular.specs.PlanBytes.{planBytes, planStart, planAt, HasPlan, planCount}
+use Rattle.regular.specs.PlanLists.{BytesFault, recordsFaults, plansFaults}
 use Rattle.regular.specs.RefusalLaws.{lowest-none, none-lowest, lowest-then, lowest-first, lent-is, lent-fits, lent-short}
 use Rattle.regular.specs.Refusals.{LentFault, either, runsFaults, columnsFaults, Lowest}
 use Rattle.regular.specs.Runs.{runsOf}
@@ -126,6 +127,19 @@ reduces-refused = record {
 -- several plans in one list: ABCD, then ABC
 abbrev pub plans : List ℕ
 plans = abcd ++ abc
+
+pub plan-bytes : planBytes 4 ≡ 4
+plan-bytes = refl
+
+pub plan-start : planStart 4 1 ≡ 4
+plan-start = refl
+
+pub plan-count : planCount 4 (length plans) ≡ 2
+plan-count = refl
+
+-- of seven bytes the last three are no plan
+pub plan-part : planCount 4 7 ≡ 1
+plan-part = refl
 
 pub has-plan : HasPlan 4 plans 1
 has-plan = omega arith

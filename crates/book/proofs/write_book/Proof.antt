@@ -1,16 +1,17 @@
 -- `book::write_book` meets its contract: all is judged, the header is begun, then the entries follow. Assumes nothing.
-use mathlib.Core.Path.{_≡_, refl, subst}
+use mathlib.Core.Path.{_≡_, subst}
 use mathlib.Core.List.{List}
-use Prim.Native.Nat.{ℕ, _/_, _≤_}
+use Prim.Native.Nat.{ℕ, _≤_}
 use borrow.Author.Needs.{needs}
 use lib.ListN.{length}
 use Rattle.regular.specs.Refusals.{Lowest}
+use Rattle.regular.specs.PlanBytes.{planCount}
 use Rattle.regular.specs.PlanLists.{wantedPlansFaults}
 use Rattle.regular.specs.Book.{bookLength}
 use Rattle.plan_lists.specs.Accepted.{AcceptedPlans, plans-accepted, plans-most}
 use Rattle.book.specs.Writing.{Opened}
 use Rattle.book.specs.WritingLaws.{refusal-none, begun-room, writes-refused, writes-book}
-use Rattle.book.specs.PlanLaws.{plans-bounds, plans-all}
+use Rattle.book.specs.PlanLaws.{plans-bounds}
 use Rattle.book.proofs.write_book.Statement.{statement}
 use Rattle.book.proofs.write_book.Tie as tie
 
@@ -33,25 +34,25 @@ module _ (c : tie.After-begin) where
       let a = start .args in
       Opened (a .n) (a .g) (a .r) count number (a .out .now) bytes (c .begin .result .number) (c .begin .result .count)
 
-  opened : OpenedFor (length (start .args .plans .now) / start .args .n)
-  opened = subst OpenedFor (c .before .before .count-of .ensures) (c .begin .ensures)
+  opened : OpenedFor (planCount (start .args .n) (length (start .args .plans .now)))
+  opened = subst OpenedFor (c .before .before .plan-count .ensures) (c .begin .ensures)
 
   -- where nothing is refused: no plan has a fault, and there is room
   module _ (e : c .begin .result .number ≡ 0) where
     accepted : AcceptedPlans (start .args .n) (start .args .g) (start .args .r) (start .args .plans .now)
     accepted =
         let a = start .args in
-        let z = refusal-none (a .n) (length (a .plans .now) / a .n) number (length (a .out .now)) (c .begin .result .number) e (opened .refusal) .plans in
+        let z = refusal-none (a .n) (planCount (a .n) (length (a .plans .now))) number (length (a .out .now)) (c .begin .result .number) e (opened .refusal) .plans in
         plans-accepted (a .n) (a .g) (a .r) (a .plans .now) (subst (Lowest (wantedPlansFaults (a .n) (a .g) (a .r) (a .plans .now))) z lowest)
 
-    room : bookLength (start .args .n) (length (start .args .plans .now) / start .args .n) ≤ length bytes
+    room : bookLength (start .args .n) (planCount (start .args .n) (length (start .args .plans .now))) ≤ length bytes
     room = begun-room opened e
 
 plans-refusal-requires : tie.Need-plans-refusal-requires
 plans-refusal-requires c κs = search needs
 
-count-of-requires : tie.Need-count-of-requires
-count-of-requires c κs = search needs
+plan-count-requires : tie.Need-plan-count-requires
+plan-count-requires c κs = search needs
 
 begin-requires : tie.Need-begin-requires
 begin-requires c κs =
@@ -85,15 +86,14 @@ returns-2 c =
     let b = z .before .before .before .before in
     let e = z .if1 .left in
     let a = start b .args in
-    writes-book (plans-most (a .n) (a .g) (a .r) (a .plans .now)) (lowest b) (opened b) e
-    (plans-all (a .n) (a .g) (a .r) (a .plans .now) (accepted b e) (bytes b) (room b e) (q .put-plans .ensures) refl)
+    writes-book (plans-most (a .n) (a .g) (a .r) (a .plans .now)) (lowest b) (opened b) e (q .put-plans .ensures)
 
 pub write-book-spec : {M : Type 1} → statement M
 write-book-spec =
     tie.close
     (tie.spec
     plans-refusal-requires
-    count-of-requires
+    plan-count-requires
     begin-requires
     same-length
     returns

@@ -59,7 +59,7 @@ use denote.Exit.{yes}
 use borrow.Author.Tests.{ltb-true, ltb-false}
 use Rattle.regular.specs.declared.Design.{Design}
 use Rattle.regular.specs.declared.BookAnswer.{BookAnswer}
-use Rattle.regular.specs.Designs.{blank, offset-fits}
+use Rattle.regular.specs.Designs.{blank, designBytes, offset-fits}
 use Rattle.regular.specs.Refusals.{Lowest, designFaults}
 use Rattle.regular.specs.PlanLists.{wantedRecordsFaults}
 use Rattle.regular.specs.Book.{entryLength, WritesDesigns}
@@ -348,7 +348,7 @@ module _ {M : Type 1} (𝓤 : URA M) (H : Heap 𝓤) (A : Atoms 𝓤) (W : Given
           (store ! 16 refl (tt, record { fits = offset-fits i n less (room .1) })) $
           assigns ! (bin ! (load ! (from ! (fld ! refl (stop !))) (look-in ! 34 (sub ! 0 refl (whole !)))) (load ! (from ! (stop !)) (look ! 16 refl)) tt)
           (from ! (stop !)) (init ! 12 refl (tt, tt)) $
-          rewrite ! 12 (λ (p : ℕ). ‵ (fat fullShare tyPtr l₁₅ 0 (vptr b p))) (sym (place-is 18 o i)) refl $
+          rewrite ! 12 (λ (p : ℕ). ‵ (fat fullShare tyPtr l₁₅ 0 (vptr b p))) (sym (place-is designBytes o i)) refl $
           looks-slice ! tt T.the-row (Is T.the-row) (shows 𝓤 H A T.the-row) (LL.vals T.the-type T′.the-laws) (LL.tells T.the-type T′.the-laws)
           (LL.copy T.the-type T′.the-copy 𝓤 H A W) ys b o (λ q′.
           elem-out ! T.the-row (Is T.the-row) (shows 𝓤 H A T.the-row) (LL.vals T.the-type T′.the-laws)

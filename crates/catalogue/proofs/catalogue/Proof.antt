@@ -1,6 +1,6 @@
 -- `catalogue::catalogue` meets its contract: a walk of its MIR, by hand. The borrow is opened once, before the loop, and closed once, after it. A turn
 -- calls `step`, which is covered, and stores what it finds at i. The loop's state is i, the list as it stands and the last record, with what the list
--- holds so far (`Listing`); its measure is the number of places left. Assumes nothing.
+-- holds so far (`FillingRecords`); its measure is the number of places left. Assumes nothing.
 use mathlib.Core.Path.{_≡_, refl, sym, _∙_, ap, subst}
 use mathlib.Core.WellFounded.{WellFounded, InvImage·wf}
 use Prim.Native.Nat.{ℕ, _+_, _-_, _*_, _≤_, _<_, _^_, zero-le}
@@ -50,12 +50,12 @@ use denote.Exit.{yes}
 use Rattle.regular.specs.declared.Design.{Design}
 use Rattle.regular.specs.declared.CatalogueAnswer.{CatalogueAnswer}
 use Rattle.entries.specs.Tracing.{Followed}
-use Rattle.regular.specs.Designs.{blank, offset-fits}
+use Rattle.regular.specs.Designs.{blank, designBytes, offset-fits}
 use Rattle.catalogue.specs.declared.NextStop.{NextStop}
 use Rattle.catalogue.specs.declared.Stop.{Stop}
 use Rattle.regular.specs.Catalogues.{ListsDesigns}
-use Rattle.catalogue.specs.Turns.{Going}
-use Rattle.catalogue.specs.Records.{Stepped, Listing}
+use Rattle.catalogue.specs.Turns.{WalkAt}
+use Rattle.catalogue.specs.Records.{StepAnswers, FillingRecords}
 use Rattle.catalogue.proofs.Records.{listing-none, listing-room, listing-more, listing-stops, holds, fails}
 use Rattle.regular.proofs.Design as T
 use Rattle.regular.proofs.Design.Laws as T′
@@ -102,8 +102,8 @@ module _ {M : Type 1} (𝓤 : URA M) (H : Heap 𝓤) (A : Atoms 𝓤) (mem : Mem
   beg-of : (d : Stop) → ent 𝓤 (ensured 𝓤 H A beg.ended (beg.clauses 𝓤 H A mem run) tt tt tt d) (fact 𝓤 (FirstStop d))
   beg-of d = exE 𝓤 _ (λ ws. snd∗ 𝓤 (sem 𝓤 H A (lasts beg.ended tt tt ws)) (fact 𝓤 (FirstStop d)))
 
-  stp-of : (w g r i n : ℕ) (c : Stop) (u : NextStop) → ent 𝓤 (ensured 𝓤 H A stp.ended (stp.clauses 𝓤 H A mem run) tt (w, (g, (r, (i, (n, (c, tt)))))) tt u) (fact 𝓤 (Stepped w g r i n c u))
-  stp-of w g r i n c u = exE 𝓤 _ (λ ws. snd∗ 𝓤 (sem 𝓤 H A (lasts stp.ended tt (w, (g, (r, (i, (n, (c, tt)))))) ws)) (fact 𝓤 (Stepped w g r i n c u)))
+  stp-of : (w g r i n : ℕ) (c : Stop) (u : NextStop) → ent 𝓤 (ensured 𝓤 H A stp.ended (stp.clauses 𝓤 H A mem run) tt (w, (g, (r, (i, (n, (c, tt)))))) tt u) (fact 𝓤 (StepAnswers w g r i n c u))
+  stp-of w g r i n c u = exE 𝓤 _ (λ ws. snd∗ 𝓤 (sem 𝓤 H A (lasts stp.ended tt (w, (g, (r, (i, (n, (c, tt)))))) ws)) (fact 𝓤 (StepAnswers w g r i n c u)))
 
 module _ {M : Type 1} (𝓤 : URA M) (H : Heap 𝓤) (A : Atoms 𝓤) (W : Given 𝓤 H A) (mem : Memory → SProp 𝓤) (run : Routine → Fun 𝓤) (κ : Lft) (q : Share) (b o : ℕ) (γ : GName) (w g r : ℕ) (ys : List Design) where
   abbrev n : ℕ
@@ -150,7 +150,7 @@ module _ {M : Type 1} (𝓤 : URA M) (H : Heap 𝓤) (A : Atoms 𝓤) (W : Given
 
     -- the loop's state: i, the list as it stands, the last record, and what is known of them
     abbrev Facts : ℕ → List Design → Stop → Type 0
-    Facts i zs c = (i ≤ n) × ((length zs ≡ n) × (Is P.the-row c (held c ∷ []) × Listing w g r ys zs i c))
+    Facts i zs c = (i ≤ n) × ((length zs ≡ n) × (Is P.the-row c (held c ∷ []) × FillingRecords w g r ys zs i c))
 
     abbrev State : Type 0
     State = (i : ℕ) × ((zs : List Design) × ((c : Stop) × Facts i zs c))
@@ -173,7 +173,7 @@ module _ {M : Type 1} (𝓤 : URA M) (H : Heap 𝓤) (A : Atoms 𝓤) (W : Given
     abbrev to-stp : Stop → ℕ → Stp 𝓤 H A mem run .Ghost
     to-stp c i = ((tt, tt, tt, (w, (g, (r, (i, (n, (c, tt)))))), (vint w64 w ∷ [], (vint w64 g ∷ [], (vint w64 r ∷ [], (vint w64 i ∷ [], (vint w64 n ∷ [], (held c ∷ [], tt))))))), tt)
 
-    goes-stp : (c : Stop) (i : ℕ) → i < 2 ^ 64 → Going w g r i (c .design .columns) (c .trail) → ent 𝓤 (sem 𝓤 H A (P.the-row .own c (held c ∷ []))) (Stp 𝓤 H A mem run .pre (to-stp c i))
+    goes-stp : (c : Stop) (i : ℕ) → i < 2 ^ 64 → WalkAt w g r i (c .design .columns) (c .trail) → ent 𝓤 (sem 𝓤 H A (P.the-row .own c (held c ∷ []))) (Stp 𝓤 H A mem run .pre (to-stp c i))
     goes-stp c i i-fits go =
         qed W (‵ (P.the-row .own c (held c ∷ [])) ∷ []) ∵
         says ! {P = onEntry 𝓤 H A stp.signature tt tt (w, (g, (r, (i, (n, (c, tt)))))) (vint w64 w ∷ [], (vint w64 g ∷ [], (vint w64 r ∷ [], (vint w64 i ∷ [], (vint w64 n ∷ [], (held c ∷ [], tt))))))} go $
@@ -183,7 +183,7 @@ module _ {M : Type 1} (𝓤 : URA M) (H : Heap 𝓤) (A : Atoms 𝓤) (W : Given
         owned ! usize (Is usize) (uint-makes 𝓤 H A W w64) w _ (refl, w-fits) $ fjoin ! $ nothing ! $ frame ! $ done !
 
     -- the state after a turn that found u
-    after : (t : State) (u : NextStop) → Stepped w g r (t .0) n (t .1 .1 .0) u → Is P.the-row (u .stop) (held (u .stop) ∷ []) → T (u .found) → State
+    after : (t : State) (u : NextStop) → StepAnswers w g r (t .0) n (t .1 .1 .0) u → Is P.the-row (u .stop) (held (u .stop) ∷ []) → T (u .found) → State
     after (i, (zs, (c, (le, (len, (is, so)))))) u e is-u yes =
         let h = holds (u .found) yes in
         (i + 1, (set zs i (u .stop .design), (u .stop, (add-one-le (listing-room w g r ys zs i c so u e h), (length-set zs i (u .stop .design) ∙ len, (is-u, listing-more w g r ys zs i c so u e h))))))
@@ -221,7 +221,7 @@ module _ {M : Type 1} (𝓤 : URA M) (H : Heap 𝓤) (A : Atoms 𝓤) (W : Given
           calls-at ! (fmOf 𝓤 H (W .laws) 𝓣) (Stp 𝓤 H A mem run) known (to-stp c i)
           (and-then ! (load ! (from ! (stop !)) (look ! 25 refl)) (and-then ! (load ! (from ! (stop !)) (look ! 23 refl)) (and-then ! (load ! (from ! (stop !)) (look ! 21 refl)) (and-then ! (load ! (from ! (stop !)) (look ! 17 refl)) (and-then ! (load ! (from ! (stop !)) (look ! 11 refl)) (and-then ! (load ! (from ! (stop !)) (look ! 15 refl)) (no-more !))))))) (λ v.
           use1 W (later (some (λ (u : NextStop). (‵ ftrue ⊛ ‵ (S.the-row .own u (v ∷ []))) ⊛ raw (ensured 𝓤 H A stp.ended (stp.clauses 𝓤 H A mem run) tt (w, (g, (r, (i, (n, (c, tt)))))) tt u)))) (id⊢ 𝓤 _) $ await ! tt $ pick ! (λ u.
-          split ! $ move ! (1 ∷ []) $ use1 W (raw (fact 𝓤 (Stepped w g r i n c u))) (stp-of 𝓤 H A mem run w g r i n c u) $ heard ! (Stepped w g r i n c u) (λ e. split ! $ drop ! $
+          split ! $ move ! (1 ∷ []) $ use1 W (raw (fact 𝓤 (StepAnswers w g r i n c u))) (stp-of 𝓤 H A mem run w g r i n c u) $ heard ! (StepAnswers w g r i n c u) (λ e. split ! $ drop ! $
           facts ! S.the-row (Is S.the-row) (shows 𝓤 H A S.the-row) u (v ∷ []) (λ is-u.
           land ! (from ! (stop !)) (init ! 12 refl (LL.lawful S.the-type S′.the-laws 𝓤 H A W .typed u _ is-u .0)) $
           rewrite ! 12 (λ (y : Val). ‵ (fat fullShare S′.mir l₇ 0 y)) (ap only (LL.tells S.the-type S′.the-laws u (v ∷ []) is-u)) refl $
@@ -232,7 +232,7 @@ module _ {M : Type 1} (𝓤 : URA M) (H : Heap 𝓤) (A : Atoms 𝓤) (W : Given
           assigns ! (of-opd ! (load ! (from ! (fld ! refl (stop !))) (look-in ! 12 (sub ! 1 refl (whole !))))) (from ! (stop !)) (store ! 14 refl (wts u is-u)) $
           assigns ! (bin ! (load ! (from ! (stop !)) (look ! 16 refl)) (lit ! tt) (record { fits = place-fits u e found })) (from ! (stop !)) (init ! 6 refl (tt, record { fits = place-fits u e found })) $
           assigns ! (bin ! (load ! (from ! (fld ! refl (stop !))) (look-in ! 18 (sub ! 0 refl (whole !)))) (load ! (from ! (stop !)) (look ! 6 refl)) tt) (from ! (stop !)) (init ! 4 refl (tt, tt)) $
-          rewrite ! 4 (λ (p : ℕ). ‵ (fat fullShare tyPtr l₁₁ 0 (vptr b p))) (sym (place-is 18 o i)) refl $
+          rewrite ! 4 (λ (p : ℕ). ‵ (fat fullShare tyPtr l₁₁ 0 (vptr b p))) (sym (place-is designBytes o i)) refl $
           elem-out ! T.the-row (Is T.the-row) (shows 𝓤 H A T.the-row) (LL.vals T.the-type T′.the-laws) (LL.tells T.the-type T′.the-laws) fullShare zs i (c .design) b o (in-list u e found) (λ _.
           -- [list[i]; what it owns; the others; the open borrow; obs; auth; _11; …]
           assigns ! (of-opd ! (load ! (from ! (fld ! refl (stop !))) (look-in ! 16 (sub ! 0 refl (whole !))))) (from ! (hop ! (look ! 6 refl) (stop !))) (store-raw ! 0 refl (wt u is-u)) $
@@ -268,16 +268,16 @@ module _ {M : Type 1} (𝓤 : URA M) (H : Heap 𝓤) (A : Atoms 𝓤) (W : Given
           wta : (u : NextStop) {v : Val} → Is S.the-row u (v ∷ []) → T (hasTy R′.mir (told (u .answer))) × WT (told (u .answer))
           wta u {v} p = LL.lawful R.the-type R′.the-laws 𝓤 H A W .typed (u .answer) _ (isa u p) .0
 
-          inside : (u : NextStop) → Stepped w g r i n c u → T (u .found) → i < n
+          inside : (u : NextStop) → StepAnswers w g r i n c u → T (u .found) → i < n
           inside u e h = listing-room w g r ys zs i c so u e (holds (u .found) h)
 
-          in-list : (u : NextStop) → Stepped w g r i n c u → T (u .found) → i < length zs
+          in-list : (u : NextStop) → StepAnswers w g r i n c u → T (u .found) → i < length zs
           in-list u e h = subst (λ (k : ℕ). i < k) (sym len) (inside u e h)
 
-          place-fits : (u : NextStop) → Stepped w g r i n c u → T (u .found) → i * 18 < 2 ^ 64
+          place-fits : (u : NextStop) → StepAnswers w g r i n c u → T (u .found) → i * designBytes < 2 ^ 64
           place-fits u e h = offset-fits i n (inside u e h) (room .1)
 
-          next-fits : (u : NextStop) → Stepped w g r i n c u → T (u .found) → i + 1 < 2 ^ 64
+          next-fits : (u : NextStop) → StepAnswers w g r i n c u → T (u .found) → i + 1 < 2 ^ 64
           next-fits u e h = fits (i + 1) (add-one-le (inside u e h))
 
     start : (d : Stop) → Is P.the-row d (held d ∷ []) → Followed 0 [] (d .trail) → State

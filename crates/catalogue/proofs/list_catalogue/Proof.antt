@@ -1,28 +1,29 @@
--- `catalogue::list_catalogue` meets its contract: after i turns the list holds the first i entries; the measure is what is left of the list. Assumes nothing.
+-- `catalogue::list_catalogue` meets its contract: after i turns the list holds the first i entries; the measure is what is left of the places. Assumes
+-- nothing.
 use borrow.Author.Needs.{needs}
-use Rattle.catalogue.proofs.Bytes.{filling-none, filling-more, filling-room, filling-falls, filling-stops}
-use Rattle.catalogue.specs.Turns.{Filling}
-use borrow.Author.Tests.{not-true, not-false}
-use lib.ListN.{length}
+use borrow.Author.Tests.{not-true, not-false, ltb-true}
+use lib.Dec.{ltb}
 use native.Mathlib.Omega.{arith}
-use Prim.Native.Nat.{_-_}
+use Prim.Native.Nat.{_-_, _<_}
+use Rattle.catalogue.proofs.Bytes.{filling-none, filling-more, filling-room, filling-stops}
+use Rattle.catalogue.specs.Turns.{NextFound, FillingBytes}
 use Rattle.catalogue.proofs.list_catalogue.Statement.{statement}
 use Rattle.catalogue.proofs.list_catalogue.Tie as tie
 
 abbrev Inv-loop : tie.InvT-loop
-Inv-loop n g r out₀ c₀ trail₀ count₀ base₀ out c trail count base = Filling n g r out₀ out count base c trail
+Inv-loop n g r out₀ places c₀ trail₀ count₀ out c trail count = FillingBytes n g r out₀ out count c trail
 
 abbrev μ-loop : tie.MeasureT-loop
-μ-loop n g r out₀ c₀ trail₀ count₀ base₀ out c trail count base = length out₀ - base
+μ-loop n g r out₀ places c₀ trail₀ count₀ out c trail count = places - count
+
+plan-count-requires : tie.Need-plan-count-requires Inv-loop μ-loop
+plan-count-requires c κs = search needs
 
 walk-start-requires : tie.Need-walk-start-requires Inv-loop μ-loop
 walk-start-requires c κs = search needs
 
 loop-holds : tie.Need-loop-holds Inv-loop μ-loop
-loop-holds c = filling-none _ _ _ _ _ _ (c .walk-start .ensures .0)
-
-sub-room : tie.Need-sub-room Inv-loop μ-loop
-sub-room c = let x = c .loop .inv in omega (arith, x .room, x .size)
+loop-holds c = let a = c .before .before .before .args in filling-none (a .n) (a .g) (a .r) (a .out .now) _ _ (c .walk-start .ensures .0)
 
 advance-requires : tie.Need-advance-requires Inv-loop μ-loop
 advance-requires c κs = c .loop .inv .progress .going
@@ -30,40 +31,58 @@ advance-requires c κs = c .loop .inv .progress .going
 same-length : tie.Need-same-length Inv-loop μ-loop
 same-length c = c .before .before .before .loop .inv .size
 
+-- a turn: where it starts, and the entry that it found
+module _ (c : tie.At-loop Inv-loop μ-loop) where
+  abbrev start : tie.Start Inv-loop μ-loop
+  start = c .before .before .before .before
+
+module _ (c : tie.Else1 Inv-loop μ-loop) where
+  abbrev turn : tie.At-loop Inv-loop μ-loop
+  turn = c .before .before .before
+
+  found : NextFound (start turn .args .n) (start turn .args .g) (start turn .args .r) (turn .loop .count)
+      (ltb (turn .loop .count) (turn .before .before .plan-count .result)) (turn .loop .c)
+      (c .before .before .advance .result .columns) (c .before .before .advance .result .trail)
+  found = c .before .before .advance .ensures .goes (not-false _ (c .if1 .left))
+
+  inside : turn .loop .count < turn .before .before .plan-count .result
+  inside = ltb-true (turn .loop .count) (turn .before .before .plan-count .result) (found .room)
+
 returns : tie.Need-returns Inv-loop μ-loop
-returns c = let x = c .before .before .before .loop .inv in filling-stops _ _ _ _ _ _ _ _ _ x _ (x .size) _ (c .before .before .advance .ensures .stops (not-true _ (c .if1 .taken)))
+returns c =
+    let t = c .before .before .before in
+    let a = start t .args in
+    filling-stops (a .n) (a .g) (a .r) (a .out .now) (t .loop .out) (t .loop .count) (t .loop .c) (t .loop .trail)
+    (t .loop .inv) _ (t .before .before .plan-count .ensures) _
+    (c .before .before .advance .ensures .stops (not-true _ (c .if1 .taken)))
 
-put-first-requires : tie.Need-put-first-requires Inv-loop μ-loop
-put-first-requires c κs =
-    let x = c .before .before .before .before .before .loop .inv in
-    let t = c .before .before .before .before .advance .ensures .goes (not-false _ (c .before .before .if1 .left)) in
-    (t .sized .size .most, omega (arith, filling-room _ _ _ _ _ _ _ _ _ x _ (x .size) _ _ t, x .size))
-
-add-base : tie.Need-add-base Inv-loop μ-loop
-add-base c =
-    let x = c .before .before .before .before .before .before .before .before .before .loop .inv in
-    let t = c .before .before .before .before .before .before .before .before .advance .ensures .goes (not-false _ (c .before .before .before .before .before .before .if1 .left)) in
-    let h = filling-room _ _ _ _ _ _ _ _ _ x _ (x .size) _ _ t in
-    record { fits = omega (arith, h, c .before .before .before .before .before .before .before .before .before .before .before .before .good .1 .1 .1 .0) }
+put-plan-requires : tie.Need-put-plan-requires Inv-loop μ-loop
+put-plan-requires c κs =
+    let e = c .before .before in
+    let t = turn e in
+    let a = start t .args in
+    let f = found e in (
+      f .sized .size .most,
+      filling-room (a .n) (a .g) (a .r) (a .out .now) (t .loop .out) (t .loop .count) (t .loop .c) (t .loop .trail)
+          (t .loop .inv) _ (t .before .before .plan-count .ensures) _ _ f,
+    )
 
 add-count : tie.Need-add-count Inv-loop μ-loop
 add-count c =
-    let x = c .before .before .before .before .before .before .before .before .before .loop .inv in
-    let t = c .before .before .before .before .before .before .before .before .advance .ensures .goes (not-false _ (c .before .before .before .before .before .before .if1 .left)) in
-    let h = filling-room _ _ _ _ _ _ _ _ _ x _ (x .size) _ _ t in
-    record { fits = omega (arith, h, t .sized .size .some, x .some, c .before .before .before .before .before .before .before .before .before .before .before .before .good .1 .1 .1 .0) }
+    let less = inside (c .before .before .before .before .before .before) in
+    search (needs, less)
 
 loop-less : tie.Need-loop-less Inv-loop μ-loop
-loop-less c =
-    let x = c .before .before .before .before .before .before .before .before .before .loop .inv in
-    let t = c .before .before .before .before .before .before .before .before .advance .ensures .goes (not-false _ (c .before .before .before .before .before .before .if1 .left)) in
-    filling-falls _ _ _ _ _ _ _ _ _ x _ (x .size) _ _ t
+loop-less c = omega (arith, inside (c .before .before .before .before .before .before))
 
 loop-again : tie.Need-loop-again Inv-loop μ-loop
 loop-again c =
-    let x = c .before .before .before .before .before .before .before .before .before .loop .inv in
-    let t = c .before .before .before .before .before .before .before .before .advance .ensures .goes (not-false _ (c .before .before .before .before .before .before .if1 .left)) in
-    filling-more _ _ _ _ _ _ _ _ _ x _ (x .size) _ _ _ t (search needs) (c .before .before .before .put-first .ensures)
+    let e = c .before .before .before .before .before .before in
+    let t = turn e in
+    let a = start t .args in
+    filling-more (a .n) (a .g) (a .r) (a .out .now) (t .loop .out) (t .loop .count) (t .loop .c) (t .loop .trail)
+    (t .loop .inv) _ (t .before .before .plan-count .ensures) _ _ _ (found e)
+    (c .before .before .before .put-plan .ensures)
 
 pub list-catalogue-spec : {M : Type 1} → statement M
 list-catalogue-spec =
@@ -71,14 +90,13 @@ list-catalogue-spec =
     (tie.spec
     Inv-loop
     μ-loop
+    plan-count-requires
     walk-start-requires
     loop-holds
-    sub-room
     advance-requires
     same-length
     returns
-    put-first-requires
-    add-base
+    put-plan-requires
     add-count
     loop-less
     loop-again)

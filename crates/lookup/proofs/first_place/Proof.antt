@@ -49,7 +49,7 @@ use denote.Triple.Walked.{says, Stays, stay-none-slice, stay-none, walkOf, goes-
 use denote.Exit.{yes}
 use borrow.Author.Tests.{ltb-true, ltb-false}
 use Rattle.regular.specs.declared.Design.{Design}
-use Rattle.regular.specs.Designs.{blank, offset-fits}
+use Rattle.regular.specs.Designs.{blank, designBytes, offset-fits}
 use Rattle.regular.specs.SmallestAnswers.{FirstPlace, DesignPlace}
 use Rattle.lookup.specs.Looking.{Looked, look-none, look-more, look-all}
 use Rattle.regular.proofs.Design as T
@@ -175,7 +175,7 @@ module _ {M : Type 1} (𝓤 : URA M) (H : Heap 𝓤) (A : Atoms 𝓤) (W : Given
           rewrite ! 6 (λ (u : Bool). ‵ (fat fullShare tyBool l₈ 0 (vbool u))) e refl $ stays ! (load ! (from ! (stop !)) (look ! 6 refl)) $
           assigns ! (bin ! (load ! (from ! (stop !)) (look ! 16 refl)) (lit ! tt) (record { fits = offset-fits i n less (room .1) })) (from ! (stop !)) (store ! 8 refl (tt, record { fits = offset-fits i n less (room .1) })) $
           assigns ! (bin ! (load ! (from ! (fld ! refl (stop !))) (look-in ! 20 (sub ! 0 refl (whole !)))) (load ! (from ! (stop !)) (look ! 8 refl)) tt) (from ! (stop !)) (init ! 4 refl (tt, tt)) $
-          rewrite ! 4 (λ (p : ℕ). ‵ (fat fullShare tyPtr l₉ 0 (vptr b p))) (sym (place-is 18 o i)) refl $
+          rewrite ! 4 (λ (p : ℕ). ‵ (fat fullShare tyPtr l₉ 0 (vptr b p))) (sym (place-is designBytes o i)) refl $
           looks-slice ! tt T.the-row (Is T.the-row) (shows 𝓤 H A T.the-row) (LL.vals T.the-type T′.the-laws) (LL.tells T.the-type T′.the-laws) (LL.copy T.the-type T′.the-copy 𝓤 H A W) ys b o (λ q′.
           elem-out ! T.the-row (Is T.the-row) (shows 𝓤 H A T.the-row) (LL.vals T.the-type T′.the-laws) (LL.tells T.the-type T′.the-laws) q′ ys i blank b o less (λ is.
           -- [list[i]; what it owns; the others; what shuts; the fractured borrow; _10; …; _9; …]

@@ -48,11 +48,11 @@ use denote.Triple.Walked.{says, Stays, stay-none, stay-none-slice, walkOf, goes-
 use denote.Exit.{yes}
 use borrow.Author.Tests.{ltb-true, ltb-false}
 use Rattle.regular.specs.declared.Design.{Design}
-use Rattle.regular.specs.Designs.{blank, offset-fits}
+use Rattle.regular.specs.Designs.{blank, designBytes, offset-fits}
 use Rattle.regular.specs.Sizes.{Sized}
 use Rattle.regular.specs.Refusals.{Lowest, either, sizeFaults}
 use Rattle.regular.specs.PlanLists.{wantedRecordsFaults, ofSome}
-use Rattle.plan_lists.specs.Judged.{Joined, designWanted}
+use Rattle.plan_lists.specs.Judged.{JudgedMore, designWanted}
 use Rattle.plan_lists.specs.Judging.{joined-none, joined-next, records-all}
 use Rattle.regular.proofs.Design as T
 use Rattle.regular.proofs.Design.Laws as T′
@@ -97,8 +97,8 @@ module _ {M : Type 1} (𝓤 : URA M) (H : Heap 𝓤) (A : Atoms 𝓤) (mem : Mem
   bnd-of : (w g r k : ℕ) → ent 𝓤 (ensured 𝓤 H A bnd.ended (bnd.clauses 𝓤 H A mem run) tt (w, (g, (r, tt))) tt k) (fact 𝓤 (Bounds w g r k))
   bnd-of w g r k = exE 𝓤 _ (λ ws. snd∗ 𝓤 (sem 𝓤 H A (lasts bnd.ended tt (w, (g, (r, tt))) ws)) (fact 𝓤 (Bounds w g r k)))
 
-  jdg-of : (w g r : ℕ) (c : Design) (t k : ℕ) → ent 𝓤 (ensured 𝓤 H A jdg.ended (jdg.clauses 𝓤 H A mem run) tt (w, (g, (r, (c, (t, tt))))) tt k) (fact 𝓤 (Joined (designWanted w g r c) t k))
-  jdg-of w g r c t k = exE 𝓤 _ (λ ws. snd∗ 𝓤 (sem 𝓤 H A (lasts jdg.ended tt (w, (g, (r, (c, (t, tt))))) ws)) (fact 𝓤 (Joined (designWanted w g r c) t k)))
+  jdg-of : (w g r : ℕ) (c : Design) (t k : ℕ) → ent 𝓤 (ensured 𝓤 H A jdg.ended (jdg.clauses 𝓤 H A mem run) tt (w, (g, (r, (c, (t, tt))))) tt k) (fact 𝓤 (JudgedMore (designWanted w g r c) t k))
+  jdg-of w g r c t k = exE 𝓤 _ (λ ws. snd∗ 𝓤 (sem 𝓤 H A (lasts jdg.ended tt (w, (g, (r, (c, (t, tt))))) ws)) (fact 𝓤 (JudgedMore (designWanted w g r c) t k)))
 
 module _ {M : Type 1} (𝓤 : URA M) (H : Heap 𝓤) (A : Atoms 𝓤) (W : Given 𝓤 H A) (mem : Memory → SProp 𝓤) (run : Routine → Fun 𝓤) (κ : Lft) (q : Share) (b o : ℕ) (γ : GName) (w g r : ℕ) (ys : List Design) where
   abbrev n : ℕ
@@ -176,7 +176,7 @@ module _ {M : Type 1} (𝓤 : URA M) (H : Heap 𝓤) (A : Atoms 𝓤) (W : Given
         nothing ! $ join ! $ frame ! $ done !
 
     -- the state after a turn
-    after : (t : State) (k : ℕ) → t .0 < n → Joined (designWanted w g r (getD ys (t .0) blank)) (t .1 .0) k → k < 2 ^ 8 → State
+    after : (t : State) (k : ℕ) → t .0 < n → JudgedMore (designWanted w g r (getD ys (t .0) blank)) (t .1 .0) k → k < 2 ^ 8 → State
     after (i, (t, (le, (t-fits, so)))) k less e k-fits =
         (i + 1, (k, (add-one-le less, (k-fits, joined-next (sizeFaults w g r) (λ j. designWanted w g r (getD ys j blank)) i t k so e))))
 
@@ -211,7 +211,7 @@ module _ {M : Type 1} (𝓤 : URA M) (H : Heap 𝓤) (A : Atoms 𝓤) (W : Given
           rewrite ! 6 (λ (u : Bool). ‵ (fat fullShare tyBool l₉ 0 (vbool u))) e refl $ stays ! (load ! (from ! (stop !)) (look ! 6 refl)) $
           assigns ! (bin ! (load ! (from ! (stop !)) (look ! 14 refl)) (lit ! tt) (record { fits = offset-fits i n less (room .1) })) (from ! (stop !)) (store ! 8 refl (tt, record { fits = offset-fits i n less (room .1) })) $
           assigns ! (bin ! (load ! (from ! (fld ! refl (stop !))) (look-in ! 16 (sub ! 0 refl (whole !)))) (load ! (from ! (stop !)) (look ! 8 refl)) tt) (from ! (stop !)) (init ! 4 refl (tt, tt)) $
-          rewrite ! 4 (λ (p : ℕ). ‵ (fat fullShare tyPtr l₁₀ 0 (vptr b p))) (sym (place-is 18 o i)) refl $
+          rewrite ! 4 (λ (p : ℕ). ‵ (fat fullShare tyPtr l₁₀ 0 (vptr b p))) (sym (place-is designBytes o i)) refl $
           looks-slice ! tt T.the-row (Is T.the-row) (shows 𝓤 H A T.the-row) (LL.vals T.the-type T′.the-laws) (LL.tells T.the-type T′.the-laws) (LL.copy T.the-type T′.the-copy 𝓤 H A W) ys b o (λ q′.
           elem-out ! T.the-row (Is T.the-row) (shows 𝓤 H A T.the-row) (LL.vals T.the-type T′.the-laws) (LL.tells T.the-type T′.the-laws) q′ ys i blank b o less (λ is.
           -- [list[i]; what it owns; the others; what shuts; the fractured borrow; _11; …; _10; …]
@@ -223,7 +223,7 @@ module _ {M : Type 1} (𝓤 : URA M) (H : Heap 𝓤) (A : Atoms 𝓤) (W : Given
           calls-at ! (fmOf 𝓤 H (W .laws) 𝓣) (Jdg 𝓤 H A mem run) known (to-jdg (getD ys i blank) t)
           (and-then ! (load ! (from ! (stop !)) (look ! 23 refl)) (and-then ! (load ! (from ! (stop !)) (look ! 21 refl)) (and-then ! (load ! (from ! (stop !)) (look ! 19 refl)) (and-then ! (load ! (from ! (stop !)) (look ! 11 refl)) (and-then ! (load ! (from ! (stop !)) (look ! 13 refl)) (no-more !)))))) (λ v.
           use1 W (later (some (λ (k : ℕ). (‵ ftrue ⊛ ‵ (u8 .own k (v ∷ []))) ⊛ raw (ensured 𝓤 H A jdg.ended (jdg.clauses 𝓤 H A mem run) tt (w, (g, (r, (getD ys i blank, (t, tt))))) tt k)))) (id⊢ 𝓤 _) $ await ! tt $ pick ! (λ k.
-          split ! $ move ! (1 ∷ []) $ use1 W (raw (fact 𝓤 (Joined (designWanted w g r (getD ys i blank)) t k))) (jdg-of 𝓤 H A mem run w g r (getD ys i blank) t k) $ heard ! (Joined (designWanted w g r (getD ys i blank)) t k) (λ e₁. split ! $ drop ! $
+          split ! $ move ! (1 ∷ []) $ use1 W (raw (fact 𝓤 (JudgedMore (designWanted w g r (getD ys i blank)) t k))) (jdg-of 𝓤 H A mem run w g r (getD ys i blank) t k) $ heard ! (JudgedMore (designWanted w g r (getD ys i blank)) t k) (λ e₁. split ! $ drop ! $
           facts ! u8 (Is u8) (shows 𝓤 H A u8) k (v ∷ []) (λ is-k.
           land ! (from ! (stop !)) (store ! 12 refl (uint-lawful 𝓤 H A W w8 .typed k _ is-k .0)) $ rewrite ! 12 (λ (u : Val). ‵ (fat fullShare byte l₆ 0 u)) (ap only (is-k .0)) refl $
           assigns-last ! (bin ! (load ! (from ! (stop !)) (look ! 14 refl)) (lit ! tt) (record { fits = fits (i + 1) (add-one-le less) })) (from ! (stop !)) (store ! 14 refl (tt, record { fits = fits (i + 1) (add-one-le less) })) $

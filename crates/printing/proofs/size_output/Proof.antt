@@ -6,8 +6,8 @@ use Rattle.printing.proofs.Printed.{refused-output, listing-output}
 use Rattle.printing.proofs.size_output.Statement.{statement}
 use Rattle.printing.proofs.size_output.Tie as tie
 
-begin-requires : tie.Need-begin-requires
-begin-requires c κs = search needs
+blank-design-requires : tie.Need-blank-design-requires
+blank-design-requires c κs = search needs
 
 fill-requires : tie.Need-fill-requires
 fill-requires c κs = search needs
@@ -52,7 +52,7 @@ pub size-output-spec : {M : Type 1} → statement M
 size-output-spec =
     tie.close
     (tie.spec
-    begin-requires
+    blank-design-requires
     fill-requires
     refused-line-requires
     same-length

@@ -6,6 +6,7 @@ use lib.ListN.{length}
 use Rattle.regular.specs.Given.{ofColumns}
 use Rattle.regular.specs.SmallestAnswers.{Formed}
 use Rattle.lent.specs.Lends.{lends-lent}
+use Rattle.plan_layout.specs.Places.{columns-within}
 use Rattle.smallest_calls.specs.Placed.{formed-accepted, formed-mask, lent-form}
 use Rattle.smallest_calls.proofs.form_into.Statement.{statement}
 use Rattle.smallest_calls.proofs.form_into.Tie as tie
@@ -20,7 +21,7 @@ lend-first-requires c κs =
     let p = c .before .before .before .before .before .before .before .before .before .pre in
     let f = c .before .before .before .before .form-of-columns in
     let zs = f .last .1 .1 .1 .1 .0 in
-    let h : a .n ≤ length (a .witness .now) = omega (arith, p .2) in
+    let h : a .n ≤ length (a .witness .now) = omega (arith, p .2, columns-within (a .n)) in
     let e = formed-accepted (f .ensures) (p .0) h in
     f .ensures .sizes e .most
 
@@ -36,11 +37,11 @@ returns c =
     let p = c .before .before .before .before .before .before .before .before .before .before .before .before .pre in
     let f = c .before .before .before .before .before .before .before .form-of-columns in
     let zs = f .last .1 .1 .1 .1 .0 in
-    let h : a .n ≤ length (a .witness .now) = omega (arith, p .2) in
+    let h : a .n ≤ length (a .witness .now) = omega (arith, p .2, columns-within (a .n)) in
     let e = formed-accepted (f .ensures) (p .0) h in
     let l = c .before .before .lend-first in
     let filled = l .last .1 .1 .0 in
-    let lent = lends-lent (a .n) (f .result .design .columns) (a .out .now) filled (l .result) (omega (arith, p .1)) (l .ensures) in
+    let lent = lends-lent (a .n) (f .result .design .columns) (a .out .now) filled (l .result) (omega (arith, p .1, columns-within (a .n))) (l .ensures) in
     let b = f .ensures .made in
     record {
       form = subst (Formed (a .n) (a .n - a .g) (ofColumns (a .n) (a .g) (a .columns .now)) filled zs) (formed-mask (f .ensures) refl)

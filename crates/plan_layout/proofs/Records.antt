@@ -5,15 +5,13 @@ use Prim.Native.Nat.{ℕ, _≤_, _<_}
 use native.Mathlib.Omega.{arith}
 use lib.ListN.{length, getD}
 use lib.Seq.{ext-getD}
+use Rattle.regular.specs.Designs.{designOf}
 use Rattle.regular.specs.declared.Design.{Design}
 
 pub columns-equal : (c d : List ℕ) (f : ℕ) → length c ≡ 16 → length d ≡ 16 → 16 ≤ f → ((g : ℕ) → g < f → getD c g 0 ≡ getD d g 0) → c ≡ d
 columns-equal c d f p q h eq = ext-getD 0 c d (p ∙ sym q) (λ g l. eq g (omega arith))
 
-design : ℕ → ℕ → List ℕ → Design
-design f b c = record { factors = f; basics = b; columns = c }
-
 pub design-equal : (c d : Design) → c .factors ≡ d .factors → c .basics ≡ d .basics → c .columns ≡ d .columns → c ≡ d
-unfolding design
 design-equal c d f b e =
-    ap (λ (x : ℕ). design x (c .basics) (c .columns)) f ∙ ap (λ (x : ℕ). design (d .factors) x (c .columns)) b ∙ ap (design (d .factors) (d .basics)) e
+    ap (λ (x : ℕ). designOf x (c .basics) (c .columns)) f ∙ ap (λ (x : ℕ). designOf (d .factors) x (c .columns)) b
+    ∙ ap (designOf (d .factors) (d .basics)) e

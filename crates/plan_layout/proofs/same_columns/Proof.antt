@@ -1,15 +1,15 @@
--- `lookup::same_columns` meets its contract: the columns before f agree; the measure is what is left of the sixteen. Assumes nothing.
+-- `plan_layout::same_columns` meets its contract: the columns before f agree; the measure is what is left of the sixteen. Assumes nothing.
 use Prim.Native.Nat.{ℕ, _-_, _≤_, _<_}
-use mathlib.Core.Path.{_≡_, sym, ap}
+use mathlib.Core.Path.{_≡_, ap}
 use mathlib.Core.Logic.{by-cases}
 use mathlib.Core.List.{List}
 use native.Mathlib.Decide.{ℕ-discrete}
 use native.Mathlib.Omega.{arith}
 use lib.ListN.{getD}
-use Rattle.lookup.specs.Looking.{clash}
-use Rattle.lookup.proofs.Equal.{columns-equal}
-use Rattle.lookup.proofs.same_columns.Statement.{statement}
-use Rattle.lookup.proofs.same_columns.Tie as tie
+use Rattle.gf2.specs.Answers.{tells-yes, tells-no}
+use Rattle.plan_layout.proofs.Records.{columns-equal}
+use Rattle.plan_layout.proofs.same_columns.Statement.{statement}
+use Rattle.plan_layout.proofs.same_columns.Tie as tie
 use borrow.Author.Needs.{needs}
 
 abbrev Inv-loop : tie.InvT-loop
@@ -30,7 +30,7 @@ array-read-if1-2 c = search needs
 returns : tie.Need-returns Inv-loop μ-loop
 returns c =
     let l = c .before .before .loop in
-    record { holds = λ e. absurd (clash e); fails = λ _ e. c .if1 .taken (ap (λ (x : List ℕ). getD x (l .f) 0) e) }
+    tells-no _ _ (λ e. c .if1 .taken (ap (λ (x : List ℕ). getD x (l .f) 0) e))
 
 add-f : tie.Need-add-f Inv-loop μ-loop
 add-f c = search needs
@@ -47,7 +47,7 @@ returns-2 : tie.Need-returns-2 Inv-loop μ-loop
 returns-2 c =
     let a = c .before .before .args in
     let l = c .before .loop in
-    record { holds = λ _. columns-equal (a .t1) (a .t2) (l .f) (search needs) (search needs) (omega arith) (l .inv .1); fails = λ e _. clash (sym e) }
+    tells-yes _ _ (columns-equal (a .t1) (a .t2) (l .f) (search needs) (search needs) (omega arith) (l .inv .1))
 
 pub same-columns-spec : {M : Type 1} → statement M
 same-columns-spec =
