@@ -26,7 +26,8 @@ returns c =
     let q = c .before .pattern2 in
     let w = c .better .ensures in (
       λ e. record { p = q .result; q = p .result; of-t = q .ensures .0; of-s = p .ensures .0; better = w .0 e },
-      λ e less. w .1 e (less-better (a .n) (a .n - a .g) (planOf (a .n) (a .n - a .g) (a .second)) (planOf (a .n) (a .n - a .g) (a .first)) (q .result) (p .result) (omega arith) (q .ensures .0) (p .ensures .0) less),
+      λ e less. w .1 e (less-better (a .n) (a .n - a .g) (planOf (a .n) (a .n - a .g) (a .second)) (planOf (a .n) (a .n - a .g) (a .first)) (q .result)
+          (p .result) (omega arith) (q .ensures .0) (p .ensures .0) less),
     )
 
 pub second-less-spec : {M : Type 1} → statement M
