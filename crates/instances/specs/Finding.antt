@@ -159,7 +159,8 @@ pub clear-1 : Clear 1 1 column 1
 clear-1 = clear-all 1 1 column
 
 -- .. all that a trial at the unit requires at once
-pub trial-1 : (Rising 1 1 column × Units 1 1 column) × (Presence column 1 marks × Tables column marks sums 1 × Identity 0 marks × Blocks marks 1 (1 ∷ replicate 7 0) × Above 1 column 0 1)
+pub trial-1 : (Rising 1 1 column × Units 1 1 column)
+    × (Presence column 1 marks × Tables column marks sums 1 × Identity 0 marks × Blocks marks 1 (1 ∷ replicate 7 0) × Above 1 column 0 1)
     × (AllLater 1 1 column 0 (replicate 128 0) × Clear 1 1 column 1)
 trial-1 = ((rising-1, units-1), (presence-1, tables-1, identity-1, blocks-1, above-1), (later-1, clear-1))
 
