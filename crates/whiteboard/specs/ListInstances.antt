@@ -83,7 +83,8 @@ lists-bytes = record {
   catalogues = record {
     lowest = accepted-room (λ k. k * 4 ≤ 9) (omega arith);
     whole = λ e. catalogue-like (λ i. drop (i * 4) listed)
-        (agree-at (λ f. getD abc f 0) (λ f. getD (drop (0 * 4) listed) f 0) 4 refl) (agree-at (λ f. getD abcd f 0) (λ f. getD (drop (1 * 4) listed) f 0) 4 refl);
+        (agree-at (λ f. getD abc f 0) (λ f. getD (drop (0 * 4) listed) f 0) 4 refl)
+        (agree-at (λ f. getD abcd f 0) (λ f. getD (drop (1 * 4) listed) f 0) 4 refl);
     fits = λ e. omega arith;
     begins = λ e. absurd (omega arith);
     none = λ h l. absurd (omega arith);
@@ -96,10 +97,12 @@ lists-bytes = record {
 abbrev begun : List ℕ
 begun = 1 ∷ 2 ∷ 3 ∷ 4 ∷ 9 ∷ []
 
-begin-first : (total : ℕ) (all : ℕ → List ℕ) → Catalogue 4 3 3 total all → (entry : ℕ → List ℕ) → Equal 4 (entry 0) abc → (i : ℕ) → i < 1 → Equal 4 (entry i) (all i)
+begin-first : (total : ℕ) (all : ℕ → List ℕ) → Catalogue 4 3 3 total all → (entry : ℕ → List ℕ) → Equal 4 (entry 0) abc → (i : ℕ) → i < 1
+    → Equal 4 (entry i) (all i)
 begin-first total all c entry a i h =
     let e : i ≡ 0 = omega arith in
-    subst (λ (j : ℕ). Equal 4 (entry j) (all j)) (sym e) (equal-trans 4 (entry 0) abc (all 0) a (catalogue-unique 4 3 3 2 total both all catalogue-4 c .1 0 (omega arith)))
+    subst (λ (j : ℕ). Equal 4 (entry j) (all j)) (sym e)
+    (equal-trans 4 (entry 0) abc (all 0) a (catalogue-unique 4 3 3 2 total both all catalogue-4 c .1 0 (omega arith)))
 
 pub lists-nine : ListsBytes 4 1 3 (9 ∷ 9 ∷ 9 ∷ 9 ∷ 9 ∷ []) begun 9 1
 unfolding below
@@ -147,7 +150,8 @@ lists-designs = record {
   catalogues = record {
     lowest = accepted-room (λ k. k ≤ 3) (omega arith);
     whole = λ e. catalogue-like (λ i. getD (recordABC ∷ recordABCD ∷ blank ∷ []) i blank .columns)
-        (agree-at (λ f. getD abc f 0) (λ f. getD (recordABC .columns) f 0) 4 refl) (agree-at (λ f. getD abcd f 0) (λ f. getD (recordABCD .columns) f 0) 4 refl);
+        (agree-at (λ f. getD abc f 0) (λ f. getD (recordABC .columns) f 0) 4 refl)
+        (agree-at (λ f. getD abcd f 0) (λ f. getD (recordABCD .columns) f 0) 4 refl);
     fits = λ e. omega arith;
     begins = λ e. absurd (omega arith);
     none = λ h l. absurd (omega arith);
@@ -182,7 +186,8 @@ pub plans-wanted : (k : ℕ) → wantedPlansFaults 4 1 3 plans k → ⊥
 plans-wanted k f =
     ⊎-elim (plans-none k)
     (λ p. ⊎-elim (wanted-none k)
-    (λ q. each-plan (λ c. WantedFault 4 3 (planOf 4 3 c) k → ⊥) (long abcd (catalogue-4 .sound 1 (omega arith)) k) (long abc (catalogue-4 .sound 0 (omega arith)) k)
+    (λ q. each-plan (λ c. WantedFault 4 3 (planOf 4 3 c) k → ⊥) (long abcd (catalogue-4 .sound 1 (omega arith)) k)
+    (long abc (catalogue-4 .sound 0 (omega arith)) k)
     (q .0) (q .1 .0) (q .1 .1)) p) f
   where
     long : (c : List ℕ) → Entry 4 3 3 c → (k : ℕ) → WantedFault 4 3 (planOf 4 3 c) k → ⊥
@@ -191,7 +196,8 @@ plans-wanted k f =
 pub writes : WritesPlans 4 1 3 plans (replicate 27 9) (book ++ (9 ∷ [])) 0 26
 writes = record {
   lowest = lowest-then (either (wantedPlansFaults 4 1 3 plans) (CountFault 2)) (LentFault 26 (replicate 27 9)) 0
-      (lowest-then (wantedPlansFaults 4 1 3 plans) (CountFault 2) 0 (lowest-none (wantedPlansFaults 4 1 3 plans) plans-wanted) (lowest-none (CountFault 2) count-none))
+      (lowest-then (wantedPlansFaults 4 1 3 plans) (CountFault 2) 0 (lowest-none (wantedPlansFaults 4 1 3 plans) plans-wanted)
+      (lowest-none (CountFault 2) count-none))
       (lent-fits 26 (replicate 27 9) (omega arith));
   refused = λ h. absurd (omega arith);
   whole = λ e. refl;
@@ -203,7 +209,8 @@ writes = record {
 pub writes-refused : WritesPlans 4 1 3 plans (9 ∷ 9 ∷ []) (9 ∷ 9 ∷ []) 8 0
 writes-refused = record {
   lowest = lowest-then (either (wantedPlansFaults 4 1 3 plans) (CountFault 2)) (LentFault 26 (9 ∷ 9 ∷ [])) 8
-      (lowest-then (wantedPlansFaults 4 1 3 plans) (CountFault 2) 0 (lowest-none (wantedPlansFaults 4 1 3 plans) plans-wanted) (lowest-none (CountFault 2) count-none))
+      (lowest-then (wantedPlansFaults 4 1 3 plans) (CountFault 2) 0 (lowest-none (wantedPlansFaults 4 1 3 plans) plans-wanted)
+      (lowest-none (CountFault 2) count-none))
       (lent-short 26 (9 ∷ 9 ∷ []) (omega arith));
   refused = λ h. (refl, refl);
   whole = λ e. absurd (omega arith);
@@ -236,7 +243,8 @@ pub writes-designs : WritesDesigns 4 1 3 twoRecords (replicate 27 9) (book ++ (9
 unfolding each below
 writes-designs = record {
   lowest = lowest-then (either (wantedRecordsFaults 4 1 3 twoRecords) (CountFault 2)) (LentFault 26 (replicate 27 9)) 0
-      (lowest-then (wantedRecordsFaults 4 1 3 twoRecords) (CountFault 2) 0 (lowest-none (wantedRecordsFaults 4 1 3 twoRecords) records-wanted) (lowest-none (CountFault 2) count-none))
+      (lowest-then (wantedRecordsFaults 4 1 3 twoRecords) (CountFault 2) 0 (lowest-none (wantedRecordsFaults 4 1 3 twoRecords) records-wanted)
+      (lowest-none (CountFault 2) count-none))
       (lent-fits 26 (replicate 27 9) (omega arith));
   refused = λ h. absurd (omega arith);
   whole = λ e. refl;
