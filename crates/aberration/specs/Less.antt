@@ -29,8 +29,14 @@ better-same n last s t p q u v h tp sq tu sv b =
       at = b .at;
       from = f;
       to = e;
-      before = λ l low less. pattern-unique n t p u tp tu l (omega arith) (omega arith) ∙ b .before l low less ∙ pattern-unique n s v q sv sq l (omega arith) (omega arith);
-      fewer = omega (arith, b .fewer, pattern-unique n t p u tp tu (b .at) (omega arith) (omega arith), pattern-unique n s q v sq sv (b .at) (omega arith) (omega arith));
+      before = λ l low less.
+          pattern-unique n t p u tp tu l (omega arith) (omega arith) ∙ b .before l low less ∙ pattern-unique n s v q sv sq l (omega arith) (omega arith);
+      fewer = omega (
+        arith,
+        b .fewer,
+        pattern-unique n t p u tp tu (b .at) (omega arith) (omega arith),
+        pattern-unique n s q v sq sv (b .at) (omega arith) (omega arith),
+      );
     }
 
 less-better : (n m : ℕ) (t s : Runs) (p q : List ℕ) → lastLength n m ≤ n → Pattern n t p → Pattern n s q → LessAberration n m t s
@@ -82,7 +88,8 @@ accepted {fault} l k h w = omega (arith, lowest-unique fault k 0 w l)
 
 -- the list that is handed back, by the choice r
 module _ {fault : ℕ → Type 0} {B : Type 0} {first second : RefT (List ℕ)} where
-  pub hands-start : {r : ℕ} {h : RefT (List ℕ)} → Chooses fault B r → r ≡ 0 → h .now ≡ take 0 (first .now) → h .ptr ≡ first .ptr → HandsBack fault B first second h
+  pub hands-start : {r : ℕ} {h : RefT (List ℕ)} → Chooses fault B r → r ≡ 0 → h .now ≡ take 0 (first .now) → h .ptr ≡ first .ptr
+      → HandsBack fault B first second h
   hands-start (Chooses.refused k p l) e w v = record {
     better = λ z _. absurd (omega (arith, lowest-unique fault k 0 l z));
     otherwise = λ z _. absurd (omega (arith, lowest-unique fault k 0 l z));

@@ -74,7 +74,10 @@ module _ {n g : ℕ} {p : Given} {r : Admitted} (ad : Admission n g p r) where
   standard-from-high h e =
       let s = standard-from 0 h e in
       let u = unswitched (p .plan) in
-      record { form = s .form; plan = agree-trans (p .plan) (switched 0 (p .plan)) (planOf n (n - g) (r .columns)) (record { into = u .onto; onto = u .into }) (s .plan) }
+      record {
+        form = s .form;
+        plan = agree-trans (p .plan) (switched 0 (p .plan)) (planOf n (n - g) (r .columns)) (record { into = u .onto; onto = u .into }) (s .plan);
+      }
 
 -- what is required of an admitted plan: if it is accepted, its columns are ready, and no bit of its start is past factor n
 pub record Prepared (n g : ℕ) (r : Admitted) : Type 0 where

@@ -55,7 +55,8 @@ module _ (n g : ℕ) (plan : ℕ → Type 0) (s : Runs) (start : ℕ → Type 0)
   plan-refused k h z l r e = refusal k r h e (lowest-then (SizeFault n g) plan k (size-accepted n g z) l)
 
   -- accepted
-  pub accepted : (run : ℕ) (a : List ℕ) → Size n g → Lowest plan 0 → ((x : ℕ) → start x → x ≡ run) → run < 2 ^ n → StandardFor n (n - g) (switched run s) a → DistinctNonzero n a
+  pub accepted : (run : ℕ) (a : List ℕ) → Size n g → Lowest plan 0 → ((x : ℕ) → start x → x ≡ run) → run < 2 ^ n
+      → StandardFor n (n - g) (switched run s) a → DistinctNonzero n a
       → ((f : ℕ) → n ≤ f → getD a f 0 ≡ 0) → Admission n g given (record { number = 0; run = run; columns = a })
   accepted run a z l from low st pl un = record {
     lowest = lowest-then (SizeFault n g) plan 0 (size-accepted n g z) l;
@@ -101,7 +102,11 @@ pub array-admission : (other : ℕ → Type 0) (n g : ℕ) (c d : List ℕ) (r :
 array-admission other n g c d r most z l same k =
     let own : (e : r .number ≡ 0) → StandardFor n (n - g) (planOf n (n - g) d) (r .columns) = λ e.
     let s = k .standard e in
-    record { form = s .form; plan = agree-trans (planOf n (n - g) d) (planOf n (n - g) c) (planOf n (n - g) (r .columns)) (plan-cols n (n - g) d c (λ f h. sym (same f h))) (s .plan) } in
+    record {
+      form = s .form;
+      plan = agree-trans (planOf n (n - g) d) (planOf n (n - g) c) (planOf n (n - g) (r .columns))
+          (plan-cols n (n - g) d c (λ f h. sym (same f h))) (s .plan);
+    } in
     record {
       lowest = lowest-then (SizeFault n g) (either other (ColumnsFault n (n - g) d)) (r .number) (size-accepted n g z)
           (lowest-then other (ColumnsFault n (n - g) d) (r .number) l

@@ -12,7 +12,8 @@ use Rattle.regular.specs.Runs.{Runs, Table, runsOf}
 use Rattle.regular.specs.Words.{NoShort, Generated, Independent}
 use Rattle.regular.specs.Columns.{planOf, Below, Spans}
 use Rattle.regular.specs.Refusals.{Short, SizeFault, ResolutionFault, WordsFault, ColumnsFault, ListFault, RecordFault, TableFault, Lowest, sizeFaults}
-use Rattle.regular.specs.RefusalLaws.{lowest-none, lowest-at, lowest-first, lowest-then, size-most, resolution-is, words-least, columns-least, list-is, record-least, table-least}
+use Rattle.regular.specs.RefusalLaws.{lowest-none, lowest-at, lowest-first, lowest-then, size-most, resolution-is}
+use Rattle.regular.specs.RefusalLaws.{words-least, columns-least, list-is, record-least, table-least}
 use Rattle.regular.specs.Accepted.{sizes-accepted}
 use Rattle.regular.specs.declared.Design.{Design}
 

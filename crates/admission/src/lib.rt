@@ -177,7 +177,8 @@ fn admit_array(n: usize, m: usize, columns: [u8; 16]) -> Admitted
 
 // Whether the places from n on are 0.
 fn unused_zero(n: usize, columns: [u8; 16]) -> bool
-    ensures { λ r. ⌜ (r ≡ true → ((f : ℕ) → n ≤ f → f < 16 → getD columns f 0 ≡ 0)) × (r ≡ false → ((f : ℕ) × ((n ≤ f) × ((f < 16) × (getD columns f 0 ≡ 0 → ⊥))))) ⌝ }
+    ensures { λ r. ⌜ (r ≡ true → ((f : ℕ) → n ≤ f → f < 16 → getD columns f 0 ≡ 0))
+        × (r ≡ false → ((f : ℕ) × ((n ≤ f) × ((f < 16) × (getD columns f 0 ≡ 0 → ⊥))))) ⌝ }
 {
     let mut f = n;
     while f < 16 {

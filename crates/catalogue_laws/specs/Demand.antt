@@ -46,14 +46,16 @@ module _ (n m r count : ℕ) (entry : ℕ → List ℕ) (k : Catalogue n m r cou
       let s = f .1 .same in
       let i = k .complete c (record { smallest = smallest-own n m (runsOf t) c (f .1); long = same-no-short n (runsOf t) (planOf n m c) s r ns }) in
       let e = equal-sym n (entry (i .0)) c (i .1 .1) in
-      let to : Same n (runsOf t) (planOf n m (entry (i .0))) = same-agree n (runsOf t) (runsOf t) (planOf n m c) (planOf n m (entry (i .0))) (agree-refl (runsOf t))
+      let to : Same n (runsOf t) (planOf n m (entry (i .0))) =
+      same-agree n (runsOf t) (runsOf t) (planOf n m c) (planOf n m (entry (i .0))) (agree-refl (runsOf t))
       (plan-cols n m c (entry (i .0)) e) s in
       record {
         place = i .0;
         within = i .1 .0;
         reached = to;
         only = λ j l q. entries-apart (i .0) j (i .1 .0) l
-            (same-trans n (planOf n m (entry (i .0))) (runsOf t) (planOf n m (entry j)) (same-sym n (runsOf t) (planOf n m (entry (i .0))) (tab .within) to) q);
+            (same-trans n (planOf n m (entry (i .0))) (runsOf t) (planOf n m (entry j))
+            (same-sym n (runsOf t) (planOf n m (entry (i .0))) (tab .within) to) q);
       }
 
 -- the plan of columns as a run table
@@ -76,17 +78,21 @@ pub record Whole (n m r count : ℕ) (entry : ℕ → List ℕ) : Type 0 where
 pub whole : (n m r count : ℕ) (entry : ℕ → List ℕ) → 3 ≤ r → Catalogue n m r count entry → Whole n m r count entry
 whole n m r count entry h k =
     let own : (c : List ℕ) → Agree (planOf n m c) (runsOf (runTable n m c)) = plan-runs n m in
-    let tab : (i : ℕ) → i < count → Table n m (runTable n m (entry i)) = λ i l. runs-table n m (entry i) (spans-apart n m (entry i) (k .sound i l .smallest .columns .rank)) in
+    let tab : (i : ℕ) → i < count
+    → Table n m (runTable n m (entry i)) = λ i l. runs-table n m (entry i) (spans-apart n m (entry i) (k .sound i l .smallest .columns .rank)) in
     let back : (c : List ℕ) → Same n (runsOf (runTable n m c)) (planOf n m c) = λ c.
-    same-agree n (planOf n m c) (runsOf (runTable n m c)) (planOf n m c) (planOf n m c) (own c) (agree-refl (planOf n m c)) (same-refl n (planOf n m c) (plan-within n m c)) in
+    same-agree n (planOf n m c) (runsOf (runTable n m c)) (planOf n m c) (planOf n m c) (own c) (agree-refl (planOf n m c))
+    (same-refl n (planOf n m c) (plan-within n m c)) in
     record {
       one = demand-3 n m r count entry k h;
       table = tab;
       long = λ i l. no-short-agree n (planOf n m (entry i)) (runsOf (runTable n m (entry i))) (own (entry i)) r (k .sound i l .long);
-      least = λ i l. smallest-moved n m (runsOf (runTable n m (entry i))) (planOf n m (entry i)) (entry i) (tab i l .within) (back (entry i)) (k .sound i l .smallest);
+      least = λ i l. smallest-moved n m (runsOf (runTable n m (entry i))) (planOf n m (entry i)) (entry i) (tab i l .within) (back (entry i))
+          (k .sound i l .smallest);
       apart = λ i j p q s. entries-apart n m r count entry k i j p q
           (same-agree n (runsOf (runTable n m (entry i))) (planOf n m (entry i)) (runsOf (runTable n m (entry j))) (planOf n m (entry j))
-          (agree-sym (planOf n m (entry i)) (runsOf (runTable n m (entry i))) (own (entry i))) (agree-sym (planOf n m (entry j)) (runsOf (runTable n m (entry j))) (own (entry j))) s);
+          (agree-sym (planOf n m (entry i)) (runsOf (runTable n m (entry i))) (own (entry i)))
+          (agree-sym (planOf n m (entry j)) (runsOf (runTable n m (entry j))) (own (entry j))) s);
       order = k .order;
     }
 
@@ -105,7 +111,8 @@ module _ (n m r : ℕ) (a b : ℕ) (c d : ℕ → List ℕ) (k : Catalogue n m r
       let p = there i h' in
       let low = later i h' in
       let q : Before n (c i) (c (suc i)) = k .order i (suc i) (omega arith) h in
-      let w : Before n (d (p .0)) (d (o .0)) = equal-before n (d (p .0)) (c i) (d (o .0)) (p .1 .1) (before-equal n (c i) (c (suc i)) (d (o .0)) q (equal-sym n (d (o .0)) (c (suc i)) (o .1 .1))) in
+      let w : Before n (d (p .0)) (d (o .0)) =
+      equal-before n (d (p .0)) (c i) (d (o .0)) (p .1 .1) (before-equal n (c i) (c (suc i)) (d (o .0)) q (equal-sym n (d (o .0)) (c (suc i)) (o .1 .1))) in
       by-cases (decLt (p .0) (o .0)) (λ s. omega arith)
       (λ s. by-cases (ℕ-discrete (p .0) (o .0))
       (λ e. absurd (before-irrefl n (d (p .0)) (d (o .0)) (λ f g. ap (λ (z : ℕ). getD (d z) f 0) e) w))

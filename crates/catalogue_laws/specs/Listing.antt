@@ -28,7 +28,8 @@ not-short : (r k : ℕ) (c : List ℕ) → short r k c ≡ false → (w : ℕ) �
 unfolding short
 not-short r k c e w h z =
     by-cases (decLt (suc (letters w)) r)
-    (λ l. absurd (clash (both-and (eqb (total c k w) (getD c k 0)) (ltb (suc (letters w)) r) (eq-eqb (total c k w) (getD c k 0) z) (lt-ltb (suc (letters w)) r l))
+    (λ l. absurd (clash (both-and (eqb (total c k w) (getD c k 0)) (ltb (suc (letters w)) r) (eq-eqb (total c k w) (getD c k 0) z)
+    (lt-ltb (suc (letters w)) r l))
     (any-none (λ v. eqb (total c k v) (getD c k 0) && ltb (suc (letters v)) r) (2 ^ k) w e h)))
     (λ l. omega arith)
 
@@ -173,7 +174,8 @@ module _ (n m r : ℕ) where
       started d h = record {
         low = omega arith;
         up = λ f w. by-cases (ℕ-discrete f k) (λ z. rw z (omega (arith, last))) (λ ne. let z : f < k = omega (arith, len) in omega (arith, last, above f z));
-        entry = subst (λ (i : ℕ). Entry i (unitsBefore q i) r q) (sym len) (fits-entry r k q was some above (and-both (leb m (unitsBefore q (suc k) + d)) (fits r k q) h .1));
+        entry = subst (λ (i : ℕ). Entry i (unitsBefore q i) r q) (sym len)
+            (fits-entry r k q was some above (and-both (leb m (unitsBefore q (suc k) + d)) (fits r k q) h .1));
       }
 
       -- no entry starts with a list that fails the test
@@ -189,7 +191,8 @@ module _ (n m r : ℕ) where
   -- whole lists
   ends : (p : List ℕ) (lo : ℕ) → Start p lo → length p ≡ n → (b : Bool) → eqb (unitsBefore p (length p)) m ≡ b → Rows p lo (choose b (p ∷ []))
   ends p lo s h true e =
-      let w : Entry n m r p = subst (λ (i : ℕ). Entry i m r p) h (subst (λ (u : ℕ). Entry (length p) u r p) (eqb-true (unitsBefore p (length p)) m e) (s .entry)) in
+      let w : Entry n m r p =
+      subst (λ (i : ℕ). Entry i m r p) h (subst (λ (u : ℕ). Entry (length p) u r p) (eqb-true (unitsBefore p (length p)) m e) (s .entry)) in
       record {
         sound = λ c i. ⊎-elim (λ z. subst (Entry n m r) (sym z) w) (λ z. absurd z) i;
         starts = λ c i. ⊎-elim (λ z f l. ap (λ (d : List ℕ). getD d f 0) (sym z)) (λ z. absurd z) i;
@@ -238,11 +241,13 @@ module _ (n m r : ℕ) where
     }
 
   -- the next column of an entry that starts with p, x
-  goes-on : (p : List ℕ) (x : ℕ) (e : List ℕ) → Entry n m r e → Equal (length (p ++ x ∷ [])) (p ++ x ∷ []) e → length (p ++ x ∷ []) < n → suc x ≤ getD e (length (p ++ x ∷ [])) 0
+  goes-on : (p : List ℕ) (x : ℕ) (e : List ℕ) → Entry n m r e → Equal (length (p ++ x ∷ [])) (p ++ x ∷ []) e → length (p ++ x ∷ []) < n
+      → suc x ≤ getD e (length (p ++ x ∷ [])) 0
   goes-on p x e he a l =
       omega (arith, next p x e a, he .smallest .columns .rising (length p) (length (p ++ x ∷ [])) (omega (arith, len p x)) l)
 
-  picked : (p : List ℕ) (lo x : ℕ) (s : Start p lo) (g : lo ≤ x) (l : length p < n) (a b : List (List ℕ)) (rest : Rows p (suc x) b) (d : ℕ) → suc (length p) + d ≡ n → (t : Bool) → may m r d (length p) (p ++ x ∷ []) ≡ t
+  picked : (p : List ℕ) (lo x : ℕ) (s : Start p lo) (g : lo ≤ x) (l : length p < n) (a b : List (List ℕ)) (rest : Rows p (suc x) b) (d : ℕ)
+      → suc (length p) + d ≡ n → (t : Bool) → may m r d (length p) (p ++ x ∷ []) ≡ t
       → (Start (p ++ x ∷ []) (suc x) → Rows (p ++ x ∷ []) (suc x) a) → Firsts p lo x s g l (choose t a) b rest
   picked p lo x s g l a b rest d z true h f =
       let w = f (started p x lo s g d h) in

@@ -92,7 +92,8 @@ module _ (n m r : ℕ) (few : m ≤ 7) (count : ℕ) (entry : ℕ → List ℕ) 
         let w : i ≤ p .0 = edges i (p .0) (p .1 .0) (omega (arith, f .since)) (u .room) in
         let l : i < total = omega (arith, p .1 .0) in
         let low = f .least (all i) (k .sound i l) (omega (arith, since i l)) in
-        let up : value n (all i) ≤ value n (all (p .0)) = by-cases (ℕ-discrete i (p .0)) (λ z. omega (arith, ap (λ (x : ℕ). value n (all x)) z)) (λ ne. omega (arith, ordered i (p .0) (omega arith) (p .1 .0))) in
+        let up : value n (all i) ≤ value n (all (p .0)) = by-cases (ℕ-discrete i (p .0)) (λ z. omega (arith, ap (λ (x : ℕ). value n (all x)) z))
+        (λ ne. omega (arith, ordered i (p .0) (omega arith) (p .1 .0))) in
         record {
           room = l;
           same = λ j s. by-cases (ℕ-discrete j i) (λ z. rw z (omega arith)) (λ ne. u .same j (omega arith));

@@ -40,7 +40,8 @@ spans-many r m t sp =
       to-length (total t r) (2 ^ r),
       upto-length (2 ^ m),
       fewer (upto (2 ^ m)) (listTo (total t r) (2 ^ r)) (upto-different (2 ^ m))
-          (λ z m0. let o = sp z (upto-lt (2 ^ m) z m0) in subst (λ (x : ℕ). In x (listTo (total t r) (2 ^ r))) (o .1 .1) (in-to (total t r) (2 ^ r) (o .0) (o .1 .0))),
+          (λ z m0. let o = sp z (upto-lt (2 ^ m) z m0) in
+          subst (λ (x : ℕ). In x (listTo (total t r) (2 ^ r))) (o .1 .1) (in-to (total t r) (2 ^ r) (o .0) (o .1 .0))),
     ))
 
 -- one more column
@@ -80,7 +81,8 @@ module _ (t : List ℕ) (r : ℕ) (size : length t ≡ r) (c : ℕ) where
       absurd (out (k, (hk, xor-none (total t r k) c (sym (more-high k hk) ∙ ap (total more (suc r)) (sym q) ∙ e)))))
 
 -- columns a that the columns t take to c: run j of c is the run of a that run j of t says
-pub run-through : (t : List ℕ) (r : ℕ) (a c : List ℕ) (n j : ℕ) → ((f : ℕ) → f < n → total t r (getD a f 0) ≡ getD c f 0) → runOf c n j ≡ runOf a n (runOf t r j)
+pub run-through : (t : List ℕ) (r : ℕ) (a c : List ℕ) (n j : ℕ) → ((f : ℕ) → f < n → total t r (getD a f 0) ≡ getD c f 0)
+    → runOf c n j ≡ runOf a n (runOf t r j)
 unfolding runOf
 run-through t r a c zero j h = refl
 run-through t r a c (suc n) j h =

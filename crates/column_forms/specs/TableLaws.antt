@@ -146,7 +146,8 @@ runs-none n c =
       unused = λ j h. zeros 128 j;
     }
 
-pub runs-more : (n d : ℕ) (c s t : List ℕ) (u half : ℕ) → half ≡ 2 ^ d → u ≡ runOf c n (2 ^ d) → RunTable n d c s → Doubling u half half s t → RunTable n (d + 1) c t
+pub runs-more : (n d : ℕ) (c s t : List ℕ) (u half : ℕ) → half ≡ 2 ^ d → u ≡ runOf c n (2 ^ d) → RunTable n d c s → Doubling u half half s t
+    → RunTable n (d + 1) c t
 runs-more n d c s t u half e p r o =
     let tw = pow-twice d half e in
     record {

@@ -25,7 +25,8 @@ pub record Doubles (F : ℕ → ℕ) (c half : ℕ) : Type 0 where
 pub record Grown (c half k : ℕ) (s p sums places : List ℕ) : Type 0 where
   pub doubling : Doubling c half k s sums
   pub wide : length places ≡ length p
-  pub last : (i : ℕ) → i < k → ((j : ℕ) → i < j → j < k → bitXor (getD s j 0) c ≡ bitXor (getD s i 0) c → ⊥) → getD places (bitXor (getD s i 0) c) 0 ≡ half + i + 1
+  pub last : (i : ℕ) → i < k → ((j : ℕ) → i < j → j < k → bitXor (getD s j 0) c ≡ bitXor (getD s i 0) c → ⊥)
+      → getD places (bitXor (getD s i 0) c) 0 ≡ half + i + 1
   pub kept : (v : ℕ) → ((i : ℕ) → i < k → bitXor (getD s i 0) c ≡ v → ⊥) → getD places v 0 ≡ getD p v 0
   pub held : (F : ℕ → ℕ) → Doubles F c half → Held F half s p → Held F (half + k) sums places
 

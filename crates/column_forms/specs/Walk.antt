@@ -115,7 +115,12 @@ module _ (n m : ℕ) (c : List ℕ) (f half : ℕ) (sums places a : List ℕ) (w
     wider-independent : Independent (suc (w .rank)) wider
     wider-independent =
         more-independent (w .basis) (w .rank) (w .count) (getD c f 0) (basis-independent n m c f half sums places a w)
-        (λ s. omega (arith, ap (λ (x : ℕ). getD places x 0) (sym is) ∙ out, w .held .back (s .0) (omega (arith, s .1 .0, w .size)), ap (λ (x : ℕ). getD places x 0) (s .1 .1)))
+        (λ s. omega (
+          arith,
+          ap (λ (x : ℕ). getD places x 0) (sym is) ∙ out,
+          w .held .back (s .0) (omega (arith, s .1 .0, w .size)),
+          ap (λ (x : ℕ). getD places x 0) (s .1 .1),
+        ))
 
     wider-reached : (i : ℕ) → i < suc (w .rank) → InSpan c n (getD wider i 0)
     wider-reached i h =
@@ -222,7 +227,8 @@ pub walk-full : (n m : ℕ) (c : List ℕ) (f half : ℕ) (sums places a : List 
     → Found n m (Spans n m c) (planOf n m c) true a
 walk-full n m c f half sums places a below e walk full =
     let w : Walk n m c n half sums places a = subst (λ (g : ℕ). Walk n m c g half sums places a) e walk in
-    is-found n m (Spans n m c) (planOf n m c) a (full-spans n m c half sums places a below w full) (full-standard n m c half sums places a below w full) (w .unused)
+    is-found n m (Spans n m c) (planOf n m c) a (full-spans n m c half sums places a below w full)
+    (full-standard n m c half sums places a below w full) (w .unused)
 
 pub walk-short : (n m : ℕ) (c : List ℕ) (f half : ℕ) (sums places a : List ℕ) → Below n m c → f ≡ n → Walk n m c f half sums places a → (half ≡ 2 ^ m → ⊥)
     → Found n m (Spans n m c) (planOf n m c) false (replicate 16 0)

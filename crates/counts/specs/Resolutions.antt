@@ -25,7 +25,8 @@ module _ (n : ℕ) (s : Runs) (p : List ℕ) (pat : Pattern n s p) where
   -- a word has a length with a count above 0
   pub word-counted : (w : ℕ) → Word n s w → ofLength p (letters w) ≡ 0 → ⊥
   word-counted w h e =
-      count-zero (λ v. Word n s v × (letters v ≡ letters w)) (ofLength p (letters w)) e (pat .counts (letters w) (word-some n s w h) (word-most n s w h)) w (h, refl)
+      count-zero (λ v. Word n s v × (letters v ≡ letters w)) (ofLength p (letters w)) e (pat .counts (letters w) (word-some n s w h) (word-most n s w h)) w
+      (h, refl)
 
   -- no length has a count
   resolution-none : ((l : ℕ) → 1 ≤ l → l ≤ n → ofLength p l ≡ 0) → Resolution n s 0
@@ -94,4 +95,5 @@ resolution-of-pattern n s p pat =
     let f = first-is n p in
     by-cases (ℕ-discrete (firstLength n p) 0)
     (λ e. subst (Resolution n s) (sym e) (resolution-none n s p pat (λ l a b. f .before l a b (inr e))))
-    (λ ne. resolution-at n s p pat (firstLength n p) (omega arith) (f .within) (f .some (omega arith)) (λ k a b. f .before k a (omega (arith, f .within)) (inl b)))
+    (λ ne. resolution-at n s p pat (firstLength n p) (omega arith) (f .within) (f .some (omega arith))
+    (λ k a b. f .before k a (omega (arith, f .within)) (inl b)))

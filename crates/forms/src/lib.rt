@@ -48,14 +48,16 @@ pub fn columns_of_words(n: usize, g: usize, words: &[u16], out: &mut [u8]) -> u8
 
 // Run table to columns: the design record of the plan of a run table, its first run switched to 0.
 pub fn design_of_runs(n: usize, g: usize, runs: &[u16]) -> DesignAnswer
-    ensures { λ r. ⌜ GivesFor (ofRuns n g (now (runs .entry))) (λ s. Holds n (n - g) (StandardColumns n (n - g) (switched (getD (now (runs .entry)) 0 0) s))) blank (r .number) (r .design) ⌝ }
+    ensures { λ r. ⌜ GivesFor (ofRuns n g (now (runs .entry)))
+        (λ s. Holds n (n - g) (StandardColumns n (n - g) (switched (getD (now (runs .entry)) 0 0) s))) blank (r .number) (r .design) ⌝ }
 {
     design_of(n, g, admission::admit_runs(n, g, runs))
 }
 
 // The same, the columns going into a lent list.
 pub fn columns_of_runs(n: usize, g: usize, runs: &[u16], out: &mut [u8]) -> u8
-    ensures { λ r. ⌜ FillsFor (ofRuns n g (now (runs .entry))) n (λ s. StandardColumns n (n - g) (switched (getD (now (runs .entry)) 0 0) s)) (now (out .entry)) (now (out .exit)) r ⌝ }
+    ensures { λ r. ⌜ FillsFor (ofRuns n g (now (runs .entry))) n (λ s. StandardColumns n (n - g) (switched (getD (now (runs .entry)) 0 0) s))
+        (now (out .entry)) (now (out .exit)) r ⌝ }
 {
     lend_columns(n, admission::admit_runs(n, g, runs), out)
 }
@@ -150,7 +152,8 @@ fn lend_runs(n: usize, g: usize, number: u8, columns: [u8; 16], out: &mut [u16])
 
 // The runs of a list of columns, in a lent list.
 pub fn list_runs_of_columns(n: usize, g: usize, columns: &[u8], out: &mut [u16]) -> u8
-    ensures { λ r. ⌜ FillsFor (ofColumns n g (now (columns .entry))) (2 ^ (n - g)) (λ _. Listed n (n - g) (now (columns .entry))) (now (out .entry)) (now (out .exit)) r ⌝ }
+    ensures { λ r. ⌜ FillsFor (ofColumns n g (now (columns .entry))) (2 ^ (n - g)) (λ _. Listed n (n - g) (now (columns .entry)))
+        (now (out .entry)) (now (out .exit)) r ⌝ }
 {
     let plan = admission::admit_columns(n, g, columns);
     let number = plan.number;

@@ -41,7 +41,8 @@ placed-total (q ∷ bs) u k p =
     ap₂ bitXor (placed-total bs u k (p .1)) (ap (λ (x : ℕ). x * bit (length bs) k) (p .0) ∙ swap (2 ^ q) (bit (length bs) k))
 
 -- an array that reads as a list, with one more
-snoc-read : (u xs : List ℕ) (x j : ℕ) → length xs ≡ j → j < length u → ((i : ℕ) → getD u i 0 ≡ getD xs i 0) → (i : ℕ) → getD (set u j x) i 0 ≡ getD (xs ++ (x ∷ [])) i 0
+snoc-read : (u xs : List ℕ) (x j : ℕ) → length xs ≡ j → j < length u → ((i : ℕ) → getD u i 0 ≡ getD xs i 0) → (i : ℕ)
+    → getD (set u j x) i 0 ≡ getD (xs ++ (x ∷ [])) i 0
 snoc-read u xs x j e h same i =
     by-cases (ℕ-discrete i j)
     (λ q. rw q (getD-set-same u j x 0 h ∙ sym (getD-at xs x [] 0 j e)))
@@ -102,7 +103,8 @@ module _ (a : List ℕ) (f m unit : ℕ) (basics words : List ℕ) (hf : f < 16)
       let L = listed a f in
       let l : length (wordsTo a f) ≡ g = omega (arith, L .size, L .count, w .count) in
       let e : v ≡ wordAt a f =
-      h ∙ ap (bitXor (1 * 2 ^ f)) (ap (λ (k : ℕ). total basics k (getD a f 0)) (sym basic-count) ∙ placed-total (unitsAt a f) basics (getD a f 0) (w .placed)) in
+      h ∙ ap (bitXor (1 * 2 ^ f)) (ap (λ (k : ℕ). total basics k (getD a f 0)) (sym basic-count)
+      ∙ placed-total (unitsAt a f) basics (getD a f 0) (w .placed)) in
       rw (add-one f)
       (record {
         count = rw t (omega (arith, w .count));

@@ -74,7 +74,9 @@ bit-suc i x = ap (λ (y : ℕ). y % 2) (sym (shr-shr x 1 i ∙ ap (λ (e : ℕ).
 -- two numbers of k digits with the same digits are equal
 pub bit-ext : (k a b : ℕ) → a < 2 ^ k → b < 2 ^ k → ((i : ℕ) → i < k → bit i a ≡ bit i b) → a ≡ b
 bit-ext zero a b ha hb h = omega arith
-bit-ext (suc k) a b ha hb h = same-by-half a b (omega (arith, h zero (omega arith))) (bit-ext k (a / 2) (b / 2) (omega arith) (omega arith) (λ i hi. sym (bit-suc i a) ∙ h (suc i) (omega arith) ∙ bit-suc i b))
+bit-ext (suc k) a b ha hb h =
+    same-by-half a b (omega (arith, h zero (omega arith)))
+    (bit-ext k (a / 2) (b / 2) (omega arith) (omega arith) (λ i hi. sym (bit-suc i a) ∙ h (suc i) (omega arith) ∙ bit-suc i b))
 
 -- the digits of a number put above n others
 bit-past : (f n d : ℕ) → f < n → bit f (d * 2 ^ n) ≡ 0

@@ -19,7 +19,8 @@ pub record Doubling (x half k : ℕ) (s t : List ℕ) : Type 0 where
 pub doubling-none : (x half : ℕ) (s : List ℕ) → Doubling x half 0 s s
 doubling-none x half s = record { size = refl; low = λ i h. refl; high = λ i h. absurd (omega arith); past = λ i h. refl }
 
-pub doubling-more : (x half k : ℕ) (s t : List ℕ) → k < half → half + k < length t → Doubling x half k s t → Doubling x half (k + 1) s (set t (half + k) (bitXor (getD t k 0) x))
+pub doubling-more : (x half k : ℕ) (s t : List ℕ) → k < half → half + k < length t → Doubling x half k s t
+    → Doubling x half (k + 1) s (set t (half + k) (bitXor (getD t k 0) x))
 doubling-more x half k s t hk l c =
     let v = bitXor (getD t k 0) x in
     record {

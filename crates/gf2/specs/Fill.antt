@@ -30,7 +30,8 @@ module _ (F : ℕ → ℕ) (entry : List ℕ) (j : ℕ) (t : List ℕ) (f : Fill
       }
 
 -- a list with y set at the place x: what holds at that place and at every other; what is unused past it
-pub each-place : (t : List ℕ) (x y : ℕ) → x < length t → (P : ℕ → ℕ → Type 0) → P x y → ((v : ℕ) → (v ≡ x → ⊥) → P v (getD t v 0)) → (v : ℕ) → P v (getD (set t x y) v 0)
+pub each-place : (t : List ℕ) (x y : ℕ) → x < length t → (P : ℕ → ℕ → Type 0) → P x y → ((v : ℕ) → (v ≡ x → ⊥) → P v (getD t v 0)) → (v : ℕ)
+    → P v (getD (set t x y) v 0)
 each-place t x y l P here other v = by-cases (ℕ-discrete v x)
     (λ q. subst (λ (z : ℕ). P z (getD (set t x y) z 0)) (sym q) (subst (λ (z : ℕ). P x z) (sym (getD-set-same t x y 0 l)) here))
     (λ ne. subst (λ (z : ℕ). P v z) (sym (getD-set-other t x v y 0 ne)) (other v ne))

@@ -63,7 +63,8 @@ odd-lin-r = bin-ind (λ (c : ℕ). (a b : ℕ) → odd c (bitXor a b) ≡ (odd c
         → odd c (bitXor a b) ≡ (odd c a + odd c b) % 2
     lin-step c a b ih =
         odd-step c (bitXor a b)
-        ∙ ap₂ (λ (x y : ℕ). (x + y) % 2) (min-comm (c % 2) (bitXor a b % 2) ∙ ap (λ (z : ℕ). min z (c % 2)) (xor-low a b)) (ap (odd (c / 2)) (xor-half a b) ∙ ih)
+        ∙ ap₂ (λ (x y : ℕ). (x + y) % 2) (min-comm (c % 2) (bitXor a b % 2) ∙ ap (λ (z : ℕ). min z (c % 2)) (xor-low a b))
+        (ap (odd (c / 2)) (xor-half a b) ∙ ih)
         ∙ lin (a % 2) (b % 2) (c % 2) (odd (c / 2) (a / 2)) (odd (c / 2) (b / 2)) (omega arith) (omega arith) (omega arith)
         ∙ sym (ap₂ (λ (x y : ℕ). (x + y) % 2)
         (odd-step c a ∙ ap (λ (z : ℕ). (z + odd (c / 2) (a / 2)) % 2) (min-comm (c % 2) (a % 2)))

@@ -12,13 +12,15 @@ abbrev pub Copied : List ℕ → List ℕ → List ℕ → Type 0
 Copied xs entry exit = exit ≡ xs ++ drop (length xs) entry
 
 -- one place more
-copy-more : (xs ys : List ℕ) (i : ℕ) → i < length xs → length xs ≤ length ys → set (take i xs ++ drop i ys) i (getD xs i 0) ≡ take (suc i) xs ++ drop (suc i) ys
+copy-more : (xs ys : List ℕ) (i : ℕ) → i < length xs → length xs ≤ length ys
+    → set (take i xs ++ drop i ys) i (getD xs i 0) ≡ take (suc i) xs ++ drop (suc i) ys
 copy-more [] ys i h l = absurd (omega arith)
 copy-more (x ∷ xs) [] i h l = absurd (omega arith)
 copy-more (x ∷ xs) (y ∷ ys) zero h l = refl
 copy-more (x ∷ xs) (y ∷ ys) (suc i) h l = ap (λ (zs : List ℕ). x ∷ zs) (copy-more xs ys i (omega arith) (omega arith))
 
-pub copy-turn : (xs ys zs : List ℕ) (i : ℕ) → i < length xs → length xs ≤ length ys → zs ≡ take i xs ++ drop i ys → set zs i (getD xs i 0) ≡ take (i + 1) xs ++ drop (i + 1) ys
+pub copy-turn : (xs ys zs : List ℕ) (i : ℕ) → i < length xs → length xs ≤ length ys → zs ≡ take i xs ++ drop i ys
+    → set zs i (getD xs i 0) ≡ take (i + 1) xs ++ drop (i + 1) ys
 copy-turn xs ys zs i h l e =
     ap (λ (zs : List ℕ). set zs i (getD xs i 0)) e ∙ copy-more xs ys i h l ∙ ap (λ (k : ℕ). take k xs ++ drop k ys) (sym (add-one i))
 

@@ -13,7 +13,8 @@ pub data Lending (x n places : ℕ) : ℕ → Type 0 where
   short : x ≡ 0 → places < n → Lending x n places 8
   none : x ≡ 0 → n ≤ places → Lending x n places 0
 
-pub lending-lowest : (F : ℕ → Type 0) (x n : ℕ) (ys : List ℕ) (r : ℕ) → Lowest F x → ((k : ℕ) → F k → k ≤ 8) → Lending x n (length ys) r → Lowest (either F (LentFault n ys)) r
+pub lending-lowest : (F : ℕ → Type 0) (x n : ℕ) (ys : List ℕ) (r : ℕ) → Lowest F x → ((k : ℕ) → F k → k ≤ 8) → Lending x n (length ys) r
+    → Lowest (either F (LentFault n ys)) r
 lending-lowest F x n ys r low most (Lending.passed h) =
     lowest-first F (LentFault n ys) x h low (λ k f. omega (arith, lent-is n ys k f, most x (low .applies h)))
 lending-lowest F x n ys r low most (Lending.short e h) =

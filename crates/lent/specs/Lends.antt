@@ -38,7 +38,8 @@ lends-short k Result ys h = record {
 }
 
 -- filled
-pub lends-filled : (k : ℕ) (Result : List ℕ → Type 0) (ys zs : List ℕ) → k ≤ length ys → length zs ≡ length ys → Result zs → drop k zs ≡ drop k ys → Lends 0 k Result ys zs 0
+pub lends-filled : (k : ℕ) (Result : List ℕ → Type 0) (ys zs : List ℕ) → k ≤ length ys → length zs ≡ length ys → Result zs → drop k zs ≡ drop k ys
+    → Lends 0 k Result ys zs 0
 lends-filled k Result ys zs h e r d = record {
   refused = λ l. absurd (omega arith);
   short = λ _ l. absurd (omega arith);
@@ -51,7 +52,8 @@ lends-copied xs ys zs h c =
     lends-filled (length xs) (Starts xs) ys zs h (copied-size xs ys zs h c) (copied-begins xs ys zs h c) (copied-past xs ys zs h c)
 
 -- what the result means
-pub lends-means : (number k : ℕ) (A B : List ℕ → Type 0) (ys zs : List ℕ) (r : ℕ) → (number ≡ 0 → A zs → B zs) → Lends number k A ys zs r → Lends number k B ys zs r
+pub lends-means : (number k : ℕ) (A B : List ℕ → Type 0) (ys zs : List ℕ) (r : ℕ) → (number ≡ 0 → A zs → B zs) → Lends number k A ys zs r
+    → Lends number k B ys zs r
 lends-means number k A B ys zs r h l = record {
   refused = l .refused;
   short = l .short;
@@ -101,7 +103,8 @@ lends-fills fault (suc number) k Result ys zs r most low l =
     let s = l .refused (omega arith) in
     subst (λ (a : ℕ). Fills (either fault (LentFault k ys)) k Result ys zs a) (sym (s .0))
     (record {
-      number = lowest-first fault (LentFault k ys) (suc number) (omega arith) low (λ j f. omega (arith, lent-is k ys j f, most (suc number) (low .applies (omega arith))));
+      number = lowest-first fault (LentFault k ys) (suc number) (omega arith) low
+          (λ j f. omega (arith, lent-is k ys j f, most (suc number) (low .applies (omega arith))));
       refused = λ _. s .1;
       result = λ e. absurd (omega arith);
       past = λ e. absurd (omega arith);

@@ -11,7 +11,8 @@ use Rattle.regular.specs.Runs.{Runs, Agree, switched}
 use Rattle.regular.specs.Given.{Given}
 use Rattle.regular.specs.Measures.{PatternInto, ResolutionOf, ResolutionInto, DistancesInto}
 use Rattle.regular.specs.declared.Admitted.{Admitted}
-use Rattle.words.specs.Switches.{agree-sym, pattern-agree, resolution-agree, distances-agree, switched-twice, pattern-switched, resolution-switched, distances-switched}
+use Rattle.words.specs.Switches.{agree-sym, pattern-agree, resolution-agree, distances-agree, switched-twice}
+use Rattle.words.specs.Switches.{pattern-switched, resolution-switched, distances-switched}
 use Rattle.counts.specs.Models.{firstLength}
 use Rattle.counts.specs.Resolutions.{resolution-of-pattern}
 use Rattle.lent.specs.Copied.{Starts}
@@ -49,7 +50,8 @@ pattern-lends {number} {n} {s} {p} {ys} {zs} {r} e h c = lends-start number n (P
 -- the distance counts in the first n + 1 places of d
 pub distances-lends : {number n : ℕ} {s : Runs} {d ys zs : List ℕ} {r : ℕ} → number ≡ 0 → n + 1 ≤ length d → Distances n s 0 d
     → Lends 0 (length (take (n + 1) d)) (Starts (take (n + 1) d)) ys zs r → Lends number (n + 1) (Distances n s 0) ys zs r
-distances-lends {number} {n} {s} {d} {ys} {zs} {r} e h c = lends-start number (n + 1) (Distances n s 0) d ys zs r e h (λ same. distances-begins n s 0 d zs same c)
+distances-lends {number} {n} {s} {d} {ys} {zs} {r} e h c =
+    lends-start number (n + 1) (Distances n s 0) d ys zs r e h (λ same. distances-begins n s 0 d zs same c)
 
 -- a plan and the same switched have one pattern
 pub pattern-back : (n mask : ℕ) (s : Runs) (p : List ℕ) → Pattern n s p → Pattern n (switched mask s) p
@@ -93,8 +95,10 @@ module _ {n g : ℕ} {p : Given} {a : Admitted} (ad : Admission n g p a) where
       subst (λ (i : ℕ). Gives (p .faults) (Resolution n (p .plan)) 0 i k) (sym (h .same))
       (record { number = ad .lowest; refused = h .refused; result = λ e. resolution-given e k (h .made e) })
 
-  pub distances-fills : {ys zs : List ℕ} {r : ℕ} → Lends (a .number) (n + 1) (Distances n (planOf n (n - g) (a .columns)) 0) ys zs r → DistancesInto n p ys zs r
-  distances-fills {ys} {zs} {r} l = fills (n + 1) (Distances n columns 0) (λ zs. (x : ℕ) → p .start x → Distances n (p .plan) x zs) (λ e. distances-given e zs) l
+  pub distances-fills : {ys zs : List ℕ} {r : ℕ} → Lends (a .number) (n + 1) (Distances n (planOf n (n - g) (a .columns)) 0) ys zs r
+      → DistancesInto n p ys zs r
+  distances-fills {ys} {zs} {r} l =
+      fills (n + 1) (Distances n columns 0) (λ zs. (x : ℕ) → p .start x → Distances n (p .plan) x zs) (λ e. distances-given e zs) l
 
   -- the resolution by value, as the one place of a lent list
   pub resolution-fills : {i k : ℕ} {ys zs : List ℕ} {r : ℕ} → ResolutionMade n (planOf n (n - g) (a .columns)) (a .number) i k

@@ -44,7 +44,8 @@ module _ {n g : ℕ} {a : List ℕ} (ready : Ready n g a) where
   columns-fit =
       let apart : In 0 (listTo column n) → ⊥ = λ m. let r = of-to column n 0 m in omega (arith, r .1 .1, ready .distinct .some (r .0) (r .1 .0)) in
       let f = fewer (0 ∷ listTo column n) (upto (2 ^ (n - g))) (apart, to-different column n column-once)
-      (λ z m. upto-in (2 ^ (n - g)) z (⊎-elim (λ e. omega (arith, pow-pos (n - g))) (λ i. let r = of-to column n z i in omega (arith, r .1 .1, column-lt (r .0) (r .1 .0))) m)) in
+      (λ z m. upto-in (2 ^ (n - g)) z (⊎-elim (λ e. omega (arith, pow-pos (n - g)))
+      (λ i. let r = of-to column n z i in omega (arith, r .1 .1, column-lt (r .0) (r .1 .0))) m)) in
       omega (arith, f, to-length column n, upto-length (2 ^ (n - g)))
 
   -- at most 11 generators
@@ -93,6 +94,7 @@ pub pattern-begins : (n : ℕ) (s : Runs) (p q : List ℕ) → ((i : ℕ) → i 
 pattern-begins n s p q same c =
     record { counts = λ l low high. subst (Count (λ w. Word n s w × (letters w ≡ l))) (sym (same (l - 1) (omega arith))) (c .counts l low high) }
 
-pub distances-begins : (n : ℕ) (s : Runs) (first : ℕ) (d e : List ℕ) → ((i : ℕ) → i < n + 1 → getD e i 0 ≡ getD d i 0) → Distances n s first d → Distances n s first e
+pub distances-begins : (n : ℕ) (s : Runs) (first : ℕ) (d e : List ℕ) → ((i : ℕ) → i < n + 1 → getD e i 0 ≡ getD d i 0)
+    → Distances n s first d → Distances n s first e
 distances-begins n s first d e same c =
     record { counts = λ i h. subst (Count (λ x. s x × (letters (bitXor x first) ≡ i))) (sym (same i (omega arith))) (c .counts i h) }

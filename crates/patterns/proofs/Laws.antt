@@ -83,7 +83,8 @@ from-more k counts p h f =
     record {
       places = length-set p k y ∙ f .places;
       same = λ i l. by-cases (ℕ-discrete i k)
-          (λ e. ap (λ (j : ℕ). getD (set p k y) j 0) e ∙ getD-set-same p k y 0 (omega (arith, f .places)) ∙ ap (λ (j : ℕ). getD counts j 0) (add-one k ∙ ap suc (sym e)))
+          (λ e. ap (λ (j : ℕ). getD (set p k y) j 0) e ∙ getD-set-same p k y 0 (omega (arith, f .places))
+          ∙ ap (λ (j : ℕ). getD counts j 0) (add-one k ∙ ap suc (sym e)))
           (λ ne. getD-set-other p k i y 0 ne ∙ f .same i (omega arith));
       unused = λ i l. getD-set-other p k i y 0 (λ e. omega arith) ∙ f .unused i (omega arith);
     }
@@ -99,7 +100,8 @@ pub end-le : (g : ℕ) → g ≤ 11 → 1 * 2 ^ g % 2 ^ 64 ≤ 2048
 end-le g h = omega (arith, end-is g h, pow-mono {i = g} {j = 11} h)
 
 -- the pattern
-pub pattern-model : (n g end : ℕ) (ws sums counts p : List ℕ) → n ≤ 16 → end ≡ 2 ^ g → Products g ws sums → LetterCounts end sums counts → FromOne n counts p → PatternModel n g ws p
+pub pattern-model : (n g end : ℕ) (ws sums counts p : List ℕ) → n ≤ 16 → end ≡ 2 ^ g → Products g ws sums → LetterCounts end sums counts
+    → FromOne n counts p → PatternModel n g ws p
 pattern-model n g end ws sums counts p h e a b f =
     record {
       counts = λ l low high.

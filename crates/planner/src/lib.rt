@@ -30,7 +30,8 @@ pub extern "C" fn plan_columns_of_words(n: usize, g: usize, words: &[u16], colum
 // Run table to columns.
 #[no_mangle]
 pub extern "C" fn plan_columns_of_runs(n: usize, g: usize, runs: &[u16], columns: &mut [u8]) -> u8
-    ensures { λ r. ⌜ FillsFor (ofRuns n g (now (runs .entry))) n (λ s. StandardColumns n (n - g) (switched (getD (now (runs .entry)) 0 0) s)) (now (columns .entry)) (now (columns .exit)) r ⌝ }
+    ensures { λ r. ⌜ FillsFor (ofRuns n g (now (runs .entry))) n (λ s. StandardColumns n (n - g) (switched (getD (now (runs .entry)) 0 0) s))
+        (now (columns .entry)) (now (columns .exit)) r ⌝ }
 {
     forms::columns_of_runs(n, g, runs, columns)
 }
@@ -46,7 +47,8 @@ pub extern "C" fn plan_words_of_columns(n: usize, g: usize, columns: &[u8], word
 // Columns to run table.
 #[no_mangle]
 pub extern "C" fn plan_runs_of_columns(n: usize, g: usize, columns: &[u8], runs: &mut [u16]) -> u8
-    ensures { λ r. ⌜ FillsFor (ofColumns n g (now (columns .entry))) (2 ^ (n - g)) (λ _. Listed n (n - g) (now (columns .entry))) (now (runs .entry)) (now (runs .exit)) r ⌝ }
+    ensures { λ r. ⌜ FillsFor (ofColumns n g (now (columns .entry))) (2 ^ (n - g)) (λ _. Listed n (n - g) (now (columns .entry))) (now (runs .entry))
+        (now (runs .exit)) r ⌝ }
 {
     forms::list_runs_of_columns(n, g, columns, runs)
 }
@@ -228,7 +230,8 @@ pub extern "C" fn plan_compare_columns(
     second: &[u8],
     witness: &mut [u8],
 ) -> u32
-    ensures { λ r. ⌜ Told (Compares n (ofColumns n g (now (first .entry))) (ofColumns n g (now (second .entry))) (now (witness .entry)) (now (witness .exit))) comparedNumber r ⌝ }
+    ensures { λ r. ⌜ Told (Compares n (ofColumns n g (now (first .entry))) (ofColumns n g (now (second .entry))) (now (witness .entry)) (now (witness .exit)))
+        comparedNumber r ⌝ }
 {
     compared_number(comparison::compare_columns(n, g, first, second, witness))
 }
@@ -242,7 +245,8 @@ pub extern "C" fn plan_compare_runs(
     second: &[u16],
     witness: &mut [u8],
 ) -> u32
-    ensures { λ r. ⌜ Told (Compares n (ofRuns n g (now (first .entry))) (ofRuns n g (now (second .entry))) (now (witness .entry)) (now (witness .exit))) comparedNumber r ⌝ }
+    ensures { λ r. ⌜ Told (Compares n (ofRuns n g (now (first .entry))) (ofRuns n g (now (second .entry))) (now (witness .entry)) (now (witness .exit)))
+        comparedNumber r ⌝ }
 {
     compared_number(comparison::compare_runs(n, g, first, second, witness))
 }
@@ -257,7 +261,8 @@ pub extern "C" fn plan_smallest_of_columns(
     smallest: &mut [u8],
     witness: &mut [u8],
 ) -> FormAnswer
-    ensures { λ r. ⌜ ReducesInto n g (ofColumns n g (now (columns .entry))) (now (list .entry)) (now (smallest .entry)) (now (smallest .exit)) (now (witness .entry)) (now (witness .exit)) r ⌝ }
+    ensures { λ r. ⌜ ReducesInto n g (ofColumns n g (now (columns .entry))) (now (list .entry)) (now (smallest .entry)) (now (smallest .exit))
+        (now (witness .entry)) (now (witness .exit)) r ⌝ }
 {
     smallest_calls::smallest_of_columns(n, g, columns, list, smallest, witness)
 }
@@ -272,7 +277,8 @@ pub extern "C" fn plan_smallest_of_runs(
     smallest: &mut [u8],
     witness: &mut [u8],
 ) -> FormAnswer
-    ensures { λ r. ⌜ ReducesInto n g (ofRuns n g (now (runs .entry))) (now (list .entry)) (now (smallest .entry)) (now (smallest .exit)) (now (witness .entry)) (now (witness .exit)) r ⌝ }
+    ensures { λ r. ⌜ ReducesInto n g (ofRuns n g (now (runs .entry))) (now (list .entry)) (now (smallest .entry)) (now (smallest .exit)) (now (witness .entry))
+        (now (witness .exit)) r ⌝ }
 {
     smallest_calls::list_smallest_of_runs(n, g, runs, list, smallest, witness)
 }

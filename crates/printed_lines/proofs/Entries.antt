@@ -29,7 +29,8 @@ accepted : {fault : ℕ → Type 0} {r : ℕ} → ((j : ℕ) → fault j → ⊥
 accepted {r = r} none l = by-cases (decLt 0 r) (λ h. absurd (none r (l .applies h))) (λ h. omega (arith, h))
 
 -- a call that answers a value, and one that fills a list
-pub listed-gives : {n g : ℕ} {d : Design} → Listable n g d → {Result : ℕ → Type 0} {none r value : ℕ} → Gives (designFaults n g d) Result none r value → Result value
+pub listed-gives : {n g : ℕ} {d : Design} → Listable n g d → {Result : ℕ → Type 0} {none r value : ℕ}
+    → Gives (designFaults n g d) Result none r value → Result value
 listed-gives l h = h .result (accepted (no-fault l) (h .number))
 
 pub listed-fills : {n g : ℕ} {d : Design} → Listable n g d → {k r : ℕ} {Result : List ℕ → Type 0} {ys zs : List ℕ} → k ≤ length ys

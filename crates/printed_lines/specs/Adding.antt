@@ -57,7 +57,8 @@ pub text-turn : (xs ys : List ℕ) (at : ℕ) (text : List ℕ) (i end : ℕ) �
 text-turn xs ys at text i end h l a =
     adds-is (sym (take-suc text i 0 h) ∙ ap (λ (k : ℕ). take k text) (sym (add-one i))) (adds-byte xs ys at (take i text) end (getD text i 0) a l)
 
-pub text-all : (xs ys : List ℕ) (at : ℕ) (text : List ℕ) (i end : ℕ) → i ≤ length text → length text ≤ i → Adds xs ys at (take i text) end → Adds xs ys at text end
+pub text-all : (xs ys : List ℕ) (at : ℕ) (text : List ℕ) (i end : ℕ) → i ≤ length text → length text ≤ i → Adds xs ys at (take i text) end
+    → Adds xs ys at text end
 text-all xs ys at text i end h l a =
     let e : i ≡ length text = omega arith in
     adds-is (ap (λ (k : ℕ). take k text) e ∙ take-length text) a
@@ -99,7 +100,8 @@ digits-are (suc k) (suc (suc r)) x f l =
     let q : 10 ^ suc (suc r) ≡ 10 * 10 ^ suc r = ten-more (suc r) in
     let o : 1 ≤ 10 ^ r = ten-pos r in
     more-digits k x (digits 10 (suc r) (x / 10)) (omega (arith, large, p, o))
-    (digits-are k (suc r) (x / 10) (omega arith, omega (arith, f .1, q), λ _. subst (λ (k : ℕ). 10 ^ k ≤ x / 10) (sym (minus-one r)) (omega (arith, large, p))) (omega arith))
+    (digits-are k (suc r) (x / 10) (omega arith, omega (arith, f .1, q), λ _. subst (λ (k : ℕ). 10 ^ k ≤ x / 10) (sym (minus-one r)) (omega (arith, large, p)))
+    (omega arith))
 
 -- a number of 64 bits has at most 20
 ten-mono : (i d : ℕ) → 10 ^ i ≤ 10 ^ (i + d)
@@ -118,11 +120,14 @@ few-digits x k h f =
 short-digits : (j k x : ℕ) → x < 10 ^ suc k → length (digitsUpTo j x) ≤ suc k
 unfolding digitsUpTo
 short-digits zero k x h = omega arith
-short-digits (suc j) zero x h = subst (λ (b : Bool). length (cond b ((48 + x) ∷ []) (digitsUpTo j (x / 10) ++ ((48 + x % 10) ∷ []))) ≤ 1) (sym (lt-ltb x 10 h)) (omega arith)
+short-digits (suc j) zero x h =
+    subst (λ (b : Bool). length (cond b ((48 + x) ∷ []) (digitsUpTo j (x / 10) ++ ((48 + x % 10) ∷ []))) ≤ 1) (sym (lt-ltb x 10 h)) (omega arith)
 short-digits (suc j) (suc k) x h =
     by-cases (decLt x 10)
-    (λ l. subst (λ (b : Bool). length (cond b ((48 + x) ∷ []) (digitsUpTo j (x / 10) ++ ((48 + x % 10) ∷ []))) ≤ suc (suc k)) (sym (lt-ltb x 10 l)) (omega arith))
-    (λ l. subst (λ (b : Bool). length (cond b ((48 + x) ∷ []) (digitsUpTo j (x / 10) ++ ((48 + x % 10) ∷ []))) ≤ suc (suc k)) (sym (le-ltb x 10 (omega (arith, l))))
+    (λ l. subst (λ (b : Bool). length (cond b ((48 + x) ∷ []) (digitsUpTo j (x / 10) ++ ((48 + x % 10) ∷ []))) ≤ suc (suc k))
+    (sym (lt-ltb x 10 l)) (omega arith))
+    (λ l. subst (λ (b : Bool). length (cond b ((48 + x) ∷ []) (digitsUpTo j (x / 10) ++ ((48 + x % 10) ∷ []))) ≤ suc (suc k))
+    (sym (le-ltb x 10 (omega (arith, l))))
     (omega (arith, short-digits j k (x / 10) (omega (arith, h, ten-more (suc k))), length-append (digitsUpTo j (x / 10)) ((48 + x % 10) ∷ []))))
 
 pub decimal-short : (k x : ℕ) → x < 10 ^ suc k → length (decimal x) ≤ suc k
@@ -140,15 +145,18 @@ pub counts-none : (xs : List ℕ) (at : ℕ) (counts : List ℕ) → Adds xs xs 
 unfolding each
 counts-none xs at counts = adds-none xs at
 
-part-more : {xs ys zs : List ℕ} {at mid end : ℕ} (part : ℕ → List ℕ) (k : ℕ) → Adds xs ys at (each part k) mid → Adds ys zs mid (part k) end → Adds xs zs at (each part (suc k)) end
+part-more : {xs ys zs : List ℕ} {at mid end : ℕ} (part : ℕ → List ℕ) (k : ℕ) → Adds xs ys at (each part k) mid → Adds ys zs mid (part k) end
+    → Adds xs zs at (each part (suc k)) end
 unfolding each
 part-more part k a b = adds-more a b
 
-pub column-turn : {xs ys zs : List ℕ} {at mid end : ℕ} (columns : List ℕ) (f : ℕ) → Adds xs ys at (columnsText f columns) mid → Adds ys zs mid (next (getD columns f 0)) end
+pub column-turn : {xs ys zs : List ℕ} {at mid end : ℕ} (columns : List ℕ) (f : ℕ) → Adds xs ys at (columnsText f columns) mid
+    → Adds ys zs mid (next (getD columns f 0)) end
     → Adds xs zs at (columnsText (f + 1) columns) end
 column-turn columns f a b = adds-is (ap (λ (k : ℕ). columnsText k columns) (sym (add-one f))) (part-more (λ i. next (getD columns i 0)) f a b)
 
-pub count-turn : {xs ys zs : List ℕ} {at mid end : ℕ} (counts : List ℕ) (l : ℕ) → 2 ≤ l → Adds xs ys at (countsText l counts) mid → Adds ys zs mid (next (getD counts l 0)) end
+pub count-turn : {xs ys zs : List ℕ} {at mid end : ℕ} (counts : List ℕ) (l : ℕ) → 2 ≤ l → Adds xs ys at (countsText l counts) mid
+    → Adds ys zs mid (next (getD counts l 0)) end
     → Adds xs zs at (countsText (l + 1) counts) end
 count-turn counts l low a b =
     let part : ℕ → List ℕ = λ i. next (ofLength counts (3 + i)) in

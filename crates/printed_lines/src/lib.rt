@@ -3,7 +3,8 @@
 // arguments' types allow.
 ghost use Prim.Native.Nat.{_+_, _-_, _*_, _≤_};
 ghost use lib.ListN.{length};
-ghost use Rattle.printed_lines.specs.Text.{Adds, decimal, next, columnsText, countsText, headerLine, refused, notASize, start, entry, EntryLine, headerMost, entryMost, entryRoom};
+ghost use Rattle.printed_lines.specs.Text.{Adds, decimal, next, columnsText, countsText, headerLine, refused, notASize};
+ghost use Rattle.printed_lines.specs.Text.{start, entry, EntryLine, headerMost, entryMost, entryRoom};
 ghost use Rattle.printed_lines.specs.Listed.{Listable};
 use bits::as_index;
 use bits::wide;

@@ -24,8 +24,11 @@ module _ {n g r : ℕ} {room : ℕ → Type 0} (low : Lowest (catalogueFaults n 
 pub all-listable : (n g r : ℕ) (d : Design) (zs : List Design) (number count : ℕ) → ListsDesigns n g r (replicate 1024 d) zs number count → number ≡ 0
     → (count ≤ 1024) × AllListable n g count zs
 all-listable n g r d zs number count l e =
-    let low : Lowest (catalogueFaults n g r (λ k. k ≤ length (replicate 1024 d))) 0 = subst (λ (k : ℕ). Lowest (catalogueFaults n g r (λ j. j ≤ length (replicate 1024 d))) k) e (l .catalogues .lowest) in
-    (omega (arith, l .catalogues .fits e, length-replicate 1024 d), λ i lt. record { size = bounds low .size; r = r; low = bounds low .low; holds = l .records i lt })
+    let low : Lowest (catalogueFaults n g r (λ k. k ≤ length (replicate 1024 d))) 0 =
+    subst (λ (k : ℕ). Lowest (catalogueFaults n g r (λ j. j ≤ length (replicate 1024 d))) k) e (l .catalogues .lowest) in (
+      omega (arith, l .catalogues .fits e, length-replicate 1024 d),
+      λ i lt. record { size = bounds low .size; r = r; low = bounds low .low; holds = l .records i lt },
+    )
 
 -- within a list, what stands past it plays no part
 pub getD-within : (xs : List Design) (i : ℕ) (d e : Design) → i < length xs → getD xs i d ≡ getD xs i e

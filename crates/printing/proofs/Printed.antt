@@ -21,14 +21,20 @@ lines-none n g list xs at = record { lines = []; are = Lines.none; text = adds-n
 line-more : {n g k : ℕ} {list : List Design} {xs ys zs : List ℕ} {at mid end : ℕ} → EntryLines n g k list xs ys at mid
     → EntryLine n g (suc k) (getD list k blank) ys zs mid end → EntryLines n g (suc k) list xs zs at end
 line-more {k = k} l e =
-    record { lines = _; are = Lines.more k (l .lines) (e .resolution) (e .pattern) (l .are) (e .is-resolution) (e .is-pattern); text = adds-more (l .text) (e .text) }
+    record {
+      lines = _;
+      are = Lines.more k (l .lines) (e .resolution) (e .pattern) (l .are) (e .is-resolution) (e .is-pattern);
+      text = adds-more (l .text) (e .text);
+    }
 
 pub lines-turn : (n g place : ℕ) (list : List Design) (d : Design) {xs ys zs : List ℕ} {at mid end : ℕ} → 1 ≤ place → place - 1 < length list
-    → EntryLines n g (place - 1) list xs ys at mid → EntryLine n g place (getD list (place - 1) d) ys zs mid end → EntryLines n g (place + 1 - 1) list xs zs at end
+    → EntryLines n g (place - 1) list xs ys at mid → EntryLine n g place (getD list (place - 1) d) ys zs mid end
+    → EntryLines n g (place + 1 - 1) list xs zs at end
 lines-turn n g place list d {xs} {ys} {zs} {at} {mid} {end} low h l e =
     let p : place ≡ suc (place - 1) = omega arith in
     let q : suc (place - 1) ≡ place + 1 - 1 = omega arith in
-    let f = subst (λ (k : ℕ). EntryLine n g k (getD list (place - 1) blank) ys zs mid end) p (subst (λ (c : Design). EntryLine n g place c ys zs mid end) (getD-within list (place - 1) d blank h) e) in
+    let f = subst (λ (k : ℕ). EntryLine n g k (getD list (place - 1) blank) ys zs mid end) p
+    (subst (λ (c : Design). EntryLine n g place c ys zs mid end) (getD-within list (place - 1) d blank h) e) in
     subst (λ (k : ℕ). EntryLines n g k list xs zs at end) q (line-more l f)
 
 pub lines-all : {n g place count : ℕ} {list : List Design} {xs ys : List ℕ} {at end : ℕ} → EntryLines n g place list xs ys at end → place ≡ count

@@ -47,7 +47,8 @@ line-ends l x d = omega (arith, past l, d .byte)
 size-unique : {l : List ℕ} {n g r x y z : ℕ} → SizeLine l n g r → SizeLine l x y z → (n ≡ x) × (g ≡ y) × (r ≡ z)
 size-unique {l} {n} {g} {r} {x} {y} {z} s t =
     let p = number-same (s .first) (t .first) (space-ends (s .space1)) (space-ends (t .space1)) in
-    let q = number-same (s .second) (subst (λ (k : ℕ). Number l (k + 1) y (t .b)) (sym (p .1)) (t .second)) (space-ends (s .space2)) (space-ends (t .space2)) in
+    let q = number-same (s .second) (subst (λ (k : ℕ). Number l (k + 1) y (t .b)) (sym (p .1)) (t .second)) (space-ends (s .space2))
+    (space-ends (t .space2)) in
     let u = number-same (s .third) (subst (λ (k : ℕ). Number l (k + 1) z (length l)) (sym (q .1)) (t .third)) (line-ends l) (line-ends l) in
     (p .0, q .0, u .0)
 
@@ -66,7 +67,8 @@ module _ (n m place : ℕ) (c d : List ℕ) (same : Equal n c d) (i j : ℕ) (p 
       let t : columnsText n c ≡ columnsText n d = each-same (λ f. next (getD c f 0)) (λ f. next (getD d f 0)) n (λ f l. ap (λ (v : ℕ). next v) (same f l)) in
       let u : countsText n p ≡ countsText n q =
       each-same (λ k. next (ofLength p (3 + k))) (λ k. next (ofLength q (3 + k))) (n - 2)
-      (λ k l. ap (λ (v : ℕ). next v) (pattern-unique n (planOf n m c) p q x (pattern-agree n (planOf n m d) (planOf n m c) s q y) (3 + k) (omega arith) (omega arith))) in
+      (λ k l. ap (λ (v : ℕ). next v) (pattern-unique n (planOf n m c) p q x (pattern-agree n (planOf n m d) (planOf n m c) s q y) (3 + k)
+      (omega arith) (omega arith))) in
       ap (λ (v : ℕ). entry n place v c p) e
       ∙ ap (λ (v : List ℕ). (decimal place ++ res ++ next j ++ columnsWord ++ v) ++ patternWord ++ countsText n p ++ newline) t
       ∙ ap (λ (v : List ℕ). (decimal place ++ res ++ next j ++ columnsWord ++ columnsText n d) ++ patternWord ++ v ++ newline) u

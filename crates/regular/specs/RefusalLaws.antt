@@ -6,7 +6,8 @@ use mathlib.Core.List.{List}
 use native.Mathlib.Omega.{arith}
 use native.Mathlib.Decide.{decLt}
 use lib.ListN.{length}
-use Rattle.regular.specs.Refusals.{SizeFault, ResolutionFault, WordsFault, ColumnsFault, ListFault, RecordFault, TableFault, LentFault, either, numbered, Lowest, wordsFaults, runsFaults, designFaults, columnsFaults}
+use Rattle.regular.specs.Refusals.{SizeFault, ResolutionFault, WordsFault, ColumnsFault, ListFault, RecordFault, TableFault, LentFault}
+use Rattle.regular.specs.Refusals.{either, numbered, Lowest, wordsFaults, runsFaults, designFaults, columnsFaults}
 use Rattle.regular.specs.declared.Design.{Design}
 
 pub lowest-unique : (F : ℕ → Type 0) (a b : ℕ) → Lowest F a → Lowest F b → a ≡ b
@@ -146,7 +147,8 @@ runs-faults-most n g t = either-most (SizeFault n g) (TableFault n (n - g) t) 7 
 pub design-faults-most : (n g : ℕ) (d : Design) (k : ℕ) → designFaults n g d k → k ≤ 7
 design-faults-most n g d =
     either-most (SizeFault n g) (either (RecordFault n (n - g) d) (ColumnsFault n (n - g) (d .columns))) 7 (λ k f. omega (arith, size-most n g k f))
-    (either-most (RecordFault n (n - g) d) (ColumnsFault n (n - g) (d .columns)) 7 (λ k f. omega (arith, record-most n (n - g) d k f)) (columns-most n (n - g) (d .columns)))
+    (either-most (RecordFault n (n - g) d) (ColumnsFault n (n - g) (d .columns)) 7 (λ k f. omega (arith, record-most n (n - g) d k f))
+    (columns-most n (n - g) (d .columns)))
 
 pub columns-faults-most : (n g : ℕ) (c : List ℕ) (k : ℕ) → columnsFaults n g c k → k ≤ 7
 columns-faults-most n g c =

@@ -43,7 +43,8 @@ abbrev pub First : List ℕ → List ℕ → ℕ → ℕ → ℕ → ℕ → Typ
 First bs u f k e r =
     ((r ≡ e) × ((i : ℕ) → k ≤ i → i < e → fitsAll bs u f i ≡ false)) ⊎ ((r < e) × (fitsAll bs u f r ≡ true))
 
-first-at : (bs u : List ℕ) (f fuel k : ℕ) (t : Bool) (r : ℕ) → fitsAll bs u f k ≡ t → First bs u f (suc k) (suc k + fuel) r → First bs u f k (k + suc fuel) (pick t k r)
+first-at : (bs u : List ℕ) (f fuel k : ℕ) (t : Bool) (r : ℕ) → fitsAll bs u f k ≡ t → First bs u f (suc k) (suc k + fuel) r
+    → First bs u f k (k + suc fuel) (pick t k r)
 first-at bs u f fuel k true r e h = inr (omega arith, e)
 first-at bs u f fuel k false r e h =
     ⊎-elim
@@ -164,7 +165,8 @@ pub record Next (u : List ℕ) (f : ℕ) (bs bs2 : List ℕ) : Type 0 where
   pub after : After u bs2 (suc f)
 
 module _ (u : List ℕ) (closed : (x y : ℕ) → In x u → In y u → In (bitXor x y) u) where
-  next-at : (bs : List ℕ) (f c : ℕ) (t : Bool) → After u bs f → columnAt u f ≡ c → First bs u f 0 (2 ^ length bs) c → eqb c (2 ^ length bs) ≡ t → Next u f bs (choose t (f ∷ bs) bs)
+  next-at : (bs : List ℕ) (f c : ℕ) (t : Bool) → After u bs f → columnAt u f ≡ c → First bs u f 0 (2 ^ length bs) c → eqb c (2 ^ length bs) ≡ t
+      → Next u f bs (choose t (f ∷ bs) bs)
   next-at bs f c true a e fst t =
       let l = length bs in
       let q : c ≡ 2 ^ l = eqb-true c (2 ^ l) t in

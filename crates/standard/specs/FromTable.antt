@@ -132,7 +132,8 @@ module _ (n m : ℕ) (t : List ℕ) (tab : Table n m t) where
         zero-in = subst (λ (z : ℕ). In z (diffs t)) (xor-self r) (in-image (λ (x : ℕ). bitXor x r) t r head-in);
         closed = λ x y p q. diff-in (bitXor x y)
             (subst (λ (z : ℕ). In z t)
-            (ap (λ (w : ℕ). bitXor w r) (xor-assoc x r (bitXor y r) ∙ ap (bitXor x) (ap (bitXor r) (xor-comm y r) ∙ sym (xor-assoc r r y) ∙ ap (λ (w : ℕ). bitXor w y) (xor-self r))))
+            (ap (λ (w : ℕ). bitXor w r) (xor-assoc x r (bitXor y r)
+            ∙ ap (bitXor x) (ap (bitXor r) (xor-comm y r) ∙ sym (xor-assoc r r y) ∙ ap (λ (w : ℕ). bitXor w y) (xor-self r))))
             (tab .regular (bitXor x r) (bitXor y r) r (back-in x p) (back-in y q) head-in));
         within = λ x p. subst (λ (z : ℕ). z < 2 ^ n) (xor-back x r) (xor-lt n (bitXor x r) r (tab .within (bitXor x r) (back-in x p)) (tab .within r head-in));
         different = image-different (λ (x : ℕ). bitXor x r) t (tab .different) (λ x y p q. xor-cancel x y r);

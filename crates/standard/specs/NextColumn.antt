@@ -21,7 +21,8 @@ module _ (a : List ℕ) (f v : ℕ) where
     set-column P new old = each-place a f v l (λ i x. i < f + 1 → P i x) (λ _. new) (λ i ne h. old i (omega arith))
 
     -- no column is past the next unit
-    pub set-next : v ≤ 2 ^ unitsBefore a f → ((g : ℕ) → g < f → getD a g 0 ≤ 2 ^ unitsBefore a g) → (g : ℕ) → g < f + 1 → getD (set a f v) g 0 ≤ 2 ^ unitsBefore (set a f v) g
+    pub set-next : v ≤ 2 ^ unitsBefore a f → ((g : ℕ) → g < f → getD a g 0 ≤ 2 ^ unitsBefore a g) → (g : ℕ) → g < f + 1
+        → getD (set a f v) g 0 ≤ 2 ^ unitsBefore (set a f v) g
     set-next hv next g h =
         subst (λ (k : ℕ). getD (set a f v) g 0 ≤ 2 ^ k) (sym (set-units g (omega arith))) (set-column (λ i x. x ≤ 2 ^ unitsBefore a i) hv next g h)
 

@@ -48,7 +48,8 @@ total-low c n d s h = total-bits c n (d * 2 ^ n + s) s (λ i l. low-bit i n d s 
 pub total-none : (c : List ℕ) (n : ℕ) → total c n 0 ≡ 0
 unfolding total
 total-none c zero = refl
-total-none c (suc n) = ap₂ (λ (a d : ℕ). bitXor a (getD c n 0 * d)) (total-none c n) (bit-none n) ∙ (let q : getD c n 0 * 0 ≡ 0 = omega arith in ap (bitXor 0) q)
+total-none c (suc n) =
+    ap₂ (λ (a d : ℕ). bitXor a (getD c n 0 * d)) (total-none c n) (bit-none n) ∙ (let q : getD c n 0 * 0 ≡ 0 = omega arith in ap (bitXor 0) q)
 
 -- one more column
 pub total-next : (c : List ℕ) (n d s : ℕ) → d < 2 → s < 2 ^ n → total c (suc n) (d * 2 ^ n + s) ≡ bitXor (total c n s) (getD c n 0 * d)
@@ -100,7 +101,8 @@ module _ (c : List ℕ) (n : ℕ) where
   unfolding total
   span-total b zero s h = span-none
   span-total b (suc k) s h =
-      span-xor (total b k s) (getD b k 0 * bit k s) (span-total b k s (λ f l. h f (omega arith))) (span-times (getD b k 0) (bit k s) (omega arith) (h k (omega arith)))
+      span-xor (total b k s) (getD b k 0 * bit k s) (span-total b k s (λ f l. h f (omega arith)))
+      (span-times (getD b k 0) (bit k s) (omega arith) (h k (omega arith)))
 
 pub span-more : (c : List ℕ) (n y : ℕ) → InSpan c n y → InSpan c (suc n) y
 span-more c n y p =

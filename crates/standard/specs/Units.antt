@@ -37,7 +37,9 @@ digit-pow (suc (suc d)) p n h l = absurd (omega arith)
 pub spread-lt : (bs : List ℕ) (n : ℕ) → ((p : ℕ) → In p bs → p < n) → (k : ℕ) → spread bs k < 2 ^ n
 unfolding spread
 spread-lt [] n h k = pow-pos n
-spread-lt (p ∷ bs) n h k = xor-lt n (spread bs k) (bit (length bs) k * 2 ^ p) (spread-lt bs n (λ q m. h q (inr m)) k) (digit-pow (bit (length bs) k) p n (omega arith) (h p (inl refl)))
+spread-lt (p ∷ bs) n h k =
+    xor-lt n (spread bs k) (bit (length bs) k * 2 ^ p) (spread-lt bs n (λ q m. h q (inr m)) k)
+    (digit-pow (bit (length bs) k) p n (omega arith) (h p (inl refl)))
 
 -- columns that agree have as many units
 pub units-same : (a b : List ℕ) (f : ℕ) → ((g : ℕ) → g < f → getD a g 0 ≡ getD b g 0) → unitsBefore a f ≡ unitsBefore b f

@@ -135,7 +135,8 @@ fits-only bs t coords f k i held hk read hi fit =
     sym (odd-bit j i) ∙ ap (λ (c : ℕ). odd c i) (sym e) ∙ sym (fit x (at-diff t (r .0) (r .1 .0))) ∙ sym (r .1 .1 .1))
 
 -- where the candidate does not fit, the factor is basic
-onto-grown : (n m : ℕ) (t coords : List ℕ) (bs : List ℕ) (f k : ℕ) → Table n m t → Held bs t coords → k < 2 ^ length bs → ((j : ℕ) → j < length bs → Read t coords f k j)
+onto-grown : (n m : ℕ) (t coords : List ℕ) (bs : List ℕ) (f k : ℕ) → Table n m t → Held bs t coords → k < 2 ^ length bs
+    → ((j : ℕ) → j < length bs → Read t coords f k j)
     → (i : ℕ) × ((i < length t) × (FitsAt t coords f k i → ⊥)) → Onto bs (diffs t) → Onto (f ∷ bs) (diffs t)
 onto-grown n m t coords bs f k tab held hk read bad onto =
     onto-next (diffs t) (table-space n m t tab .closed) bs f onto (λ i h. none i h (fitsAll bs (diffs t) f i) refl)
@@ -209,12 +210,14 @@ module _ (m : ℕ) (t : List ℕ) (f : ℕ) (w : Walked) (s : Walk m t f w) wher
       pub step-follow : (v : Walked) → b ≡ true → f < 16 → Followed f k w v → Reached m t (f + 1) v
       step-follow v fits hf is =
           went m t (f + 1) v (ap (λ (z : Walked). z .ok) (is .is))
-          (subst (Walk m t (f + 1)) (sym (is .is)) (walk-follow m t f k w hf s (step-below e) (fits-places (s .bs) t (w .coords) f k (s .held) (fit .all fits))))
+          (subst (Walk m t (f + 1)) (sym (is .is))
+          (walk-follow m t f k w hf s (step-below e) (fits-places (s .bs) t (w .coords) f k (s .held) (fit .all fits))))
 
       -- it does not: factor f is basic
       step-onto : b ≡ false → (n : ℕ) → Table n m t → Onto (f ∷ s .bs) (diffs t)
       step-onto bad n tab =
-          onto-grown n m t (w .coords) (s .bs) f k tab (s .held) (step-below e) (λ j h. cand .reads e j (omega (arith, s .basics))) (fit .some bad) (s .onto n tab)
+          onto-grown n m t (w .coords) (s .bs) f k tab (s .held) (step-below e) (λ j h. cand .reads e j (omega (arith, s .basics)))
+          (fit .some bad) (s .onto n tab)
 
       pub step-full : b ≡ false → w .basics ≡ m → (n : ℕ) → Table n m t → ⊥
       step-full bad full n tab = full-refused n m t (s .bs) f tab (sym (s .basics) ∙ full) (step-onto bad n tab)

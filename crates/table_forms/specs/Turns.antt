@@ -24,7 +24,8 @@ latest-none count coords h =
       last = λ i l. absurd (omega arith);
     }
 
-pub latest-more : (count k : ℕ) (coords v : List ℕ) → k < count → getD coords k 0 < 128 → Latest count k coords v → Latest count (k + 1) coords (set v (getD coords k 0) k)
+pub latest-more : (count k : ℕ) (coords v : List ℕ) → k < count → getD coords k 0 < 128 → Latest count k coords v
+    → Latest count (k + 1) coords (set v (getD coords k 0) k)
 latest-more count k coords v h b l =
     let c = getD coords k 0 in
     let here : getD (set v c k) c 0 ≡ k = getD-set-same v c k 0 (omega (arith, l .size)) in
@@ -67,7 +68,8 @@ read-more t coords f i half d k x e hk hx ce de read j h =
 pub extend-none : (t c : List ℕ) (f half : ℕ) → length c ≡ 128 → Extended t c c f half 0
 extend-none t c f half l = record { size = l; made = λ i h. absurd (omega arith); kept = λ i h. refl }
 
-pub extend-more : (t c₀ c : List ℕ) (f half k v : ℕ) → k < 128 → Extended t c₀ c f half k → v ≡ bit f (diffAt t k) * half + getD c k 0 → Extended t c₀ (set c k v) f half (k + 1)
+pub extend-more : (t c₀ c : List ℕ) (f half k v : ℕ) → k < 128 → Extended t c₀ c f half k → v ≡ bit f (diffAt t k) * half + getD c k 0
+    → Extended t c₀ (set c k v) f half (k + 1)
 extend-more t c₀ c f half k v h x e =
     record {
       size = length-set c k v ∙ x .size;

@@ -73,7 +73,8 @@ module _ (n m : ℕ) (t a : List ℕ) (g : ℕ → ℕ) (count : length t ≡ 2 
       ∙ ap (λ (v : ℕ). bitXor v r) (sym (xor-assoc (bitXor x y) z r))
       ∙ xor-back (bitXor (bitXor x y) z) r in
       subst (λ (v : ℕ). In v t) three
-      (table-plan .onto (bitXor (bitXor (bitXor x r) (bitXor y r)) (bitXor z r)) (plan-closed (bitXor (bitXor x r) (bitXor y r)) (bitXor z r) (plan-closed (bitXor x r) (bitXor y r) (lift x p) (lift y q)) (lift z s)))
+      (table-plan .onto (bitXor (bitXor (bitXor x r) (bitXor y r)) (bitXor z r))
+      (plan-closed (bitXor (bitXor x r) (bitXor y r)) (bitXor z r) (plan-closed (bitXor x r) (bitXor y r) (lift x p) (lift y q)) (lift z s)))
 
   table-is : Table n m t
   table-is =
@@ -135,4 +136,5 @@ module _ (n m : ℕ) (t : List ℕ) (w : Walked) (count : length t ≡ 2 ^ m) (w
       (s .unused)
 
   pub verdict-repeat : AllLast (length t) (w .coords) (w .place) false → Found n m (Table n m t) (switched (getD t 0 0) (runsOf t)) false (replicate 16 0)
-  verdict-repeat l = not-found n m (Table n m t) (switched (getD t 0 0) (runsOf t)) (λ tab. let r = l .some refl in repeat-refused (r .0) (r .1 .0) (r .1 .1) tab)
+  verdict-repeat l =
+      not-found n m (Table n m t) (switched (getD t 0 0) (runsOf t)) (λ tab. let r = l .some refl in repeat-refused (r .0) (r .1 .0) (r .1 .1) tab)

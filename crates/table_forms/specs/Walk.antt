@@ -78,7 +78,14 @@ pub record Followed (f k : ℕ) (w v : Walked) : Type 0 where
 
 -- v is w with factor f as one more basic factor
 pub record Grown (t : List ℕ) (f : ℕ) (w v : Walked) : Type 0 where
-  pub is : v ≡ record { ok = true; columns = set (w .columns) f (w .half); basics = w .basics + 1; half = w .half + w .half; coords = v .coords; place = v .place }
+  pub is : v ≡ record {
+    ok = true;
+    columns = set (w .columns) f (w .half);
+    basics = w .basics + 1;
+    half = w .half + w .half;
+    coords = v .coords;
+    place = v .place;
+  }
   pub extended : Extended t (w .coords) (v .coords) f (w .half) (length t)
   pub latest : Latest (length t) (length t) (v .coords) (v .place)
 

@@ -23,7 +23,8 @@ use Rattle.regular.specs.declared.Checked.{Checked}
 use Rattle.isomorphism_laws.specs.Moving.{carries-names}
 use Rattle.whiteboard.specs.ListTests.{among, not-among}
 use Rattle.whiteboard.specs.PlanInstances.{runsABC, disguised, witness-disguised, pattern-abc, pattern-abcd, less-abcd, not-less, different-abc-abcd}
-use Rattle.whiteboard.specs.RefusalInstances.{refusal-7, refusal-8, refused-runs, accepted-disguised, accepted-columns, accepted-abcd, accepted-words, accepted-word-abcd, accepted-runs}
+use Rattle.whiteboard.specs.RefusalInstances.{refusal-7, refusal-8, refused-runs, accepted-disguised, accepted-columns}
+use Rattle.whiteboard.specs.RefusalInstances.{accepted-abcd, accepted-words, accepted-word-abcd, accepted-runs}
 use Rattle.whiteboard.specs.Samples.{abc, abcd, words-abc}
 use Rattle.whiteboard.specs.Tests.{below, agree-at}
 use Rattle.whiteboard.specs.Whiteboard.{wordsP, wordsQ, whiteboard}
@@ -155,7 +156,8 @@ compares-different =
     (lowest-then (columnsFaults 4 1 abc) (columnsFaults 4 1 abcd) 0 accepted-columns accepted-abcd) (lent-fits 4 five (omega arith)))
     different-abc-abcd differ-at refl
 
-pub compares-refused : Compares 5 (ofColumns 5 1 (1 ∷ 2 ∷ 3 ∷ 4 ∷ 8 ∷ [])) (ofColumns 5 1 (1 ∷ 2 ∷ 4 ∷ 7 ∷ 8 ∷ [])) (0 ∷ 0 ∷ 0 ∷ 0 ∷ []) (0 ∷ 0 ∷ 0 ∷ 0 ∷ []) (Compared.Refused 8)
+pub compares-refused : Compares 5 (ofColumns 5 1 (1 ∷ 2 ∷ 3 ∷ 4 ∷ 8 ∷ [])) (ofColumns 5 1 (1 ∷ 2 ∷ 4 ∷ 7 ∷ 8 ∷ [])) (0 ∷ 0 ∷ 0 ∷ 0 ∷ [])
+    (0 ∷ 0 ∷ 0 ∷ 0 ∷ []) (Compared.Refused 8)
 compares-refused = Compares.refused 8 (omega arith) refusal-8 refl
 
 -- the check of a witness: with its mask, without it, and between runs that are not regular

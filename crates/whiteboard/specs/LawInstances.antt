@@ -38,7 +38,8 @@ use Rattle.catalogue_laws.specs.Walk.{first}
 use Rattle.catalogue_laws.specs.Walked.{Begun, Ended}
 use Rattle.whiteboard.specs.GivenWords.{given-generators}
 use Rattle.whiteboard.specs.ListTests.{among, all, distinct, carried-witness}
-use Rattle.whiteboard.specs.PlanInstances.{runsABC, recordABC, recordABCD, holds-abc, holds-abcd, past-front, table-abc, distances-abc, bcd, below-abc, distinct-abc, units-abc, different-abc-abcd, standard-form-abc, independent-abc}
+use Rattle.whiteboard.specs.PlanInstances.{runsABC, recordABC, recordABCD, holds-abc, holds-abcd, past-front, table-abc, distances-abc, bcd}
+use Rattle.whiteboard.specs.PlanInstances.{below-abc, distinct-abc, units-abc, different-abc-abcd, standard-form-abc, independent-abc}
 use Rattle.whiteboard.specs.Samples.{abc, abcd, catalogue-4}
 use Rattle.whiteboard.specs.Tests.{below, below-at}
 

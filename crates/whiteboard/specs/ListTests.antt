@@ -87,7 +87,8 @@ carried-witness n t u p mask e =
         renaming = named-renaming n p (r .0);
         within = ltb-true mask (2 ^ n) (r .1 .0);
         into = λ x m. among-in (sent n p mask x) u (all-at (λ z. among (sent n p mask z) u) t (r .1 .1 .0) x m);
-        onto = λ y m. of-image (sent n p mask) t y (among-in y (image (sent n p mask) t) (all-at (λ z. among z (image (sent n p mask) t)) u (r .1 .1 .1 .0) y m));
+        onto = λ y m. of-image (sent n p mask) t y
+            (among-in y (image (sent n p mask) t) (all-at (λ z. among z (image (sent n p mask) t)) u (r .1 .1 .1 .0) y m));
       };
     }
 

@@ -150,7 +150,12 @@ pub not-spans : Spans 4 3 (1 ∷ 1 ∷ 2 ∷ 3 ∷ []) → ⊥
 unfolding below
 not-spans h =
     let r = h 4 (omega arith) in
-    omega (arith, r .1 .1, total-lt (1 ∷ 1 ∷ 2 ∷ 3 ∷ []) 4 2 (r .0) (λ f l. ltb-true (getD (1 ∷ 1 ∷ 2 ∷ 3 ∷ []) f 0) 4 (below-at (λ i. ltb (getD (1 ∷ 1 ∷ 2 ∷ 3 ∷ []) i 0) 4) 4 refl f l)))
+    omega (
+      arith,
+      r .1 .1,
+      total-lt (1 ∷ 1 ∷ 2 ∷ 3 ∷ []) 4 2 (r .0)
+          (λ f l. ltb-true (getD (1 ∷ 1 ∷ 2 ∷ 3 ∷ []) f 0) 4 (below-at (λ i. ltb (getD (1 ∷ 1 ∷ 2 ∷ 3 ∷ []) i 0) 4) 4 refl f l)),
+    )
 
 -- the run table of ABC, in a list and in 128 places
 pub listed-abc : Listed 4 3 abc runsABC

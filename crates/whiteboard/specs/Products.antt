@@ -68,7 +68,8 @@ product-bit f [] = bit-none f
 product-bit f (x ∷ xs) =
     bit-xor f x (product xs) ∙ ap (λ (k : ℕ). (bit f x + k) % 2) (product-bit f xs) ∙ next (holding f x) refl
   where
-    next : (b : Bool) → eqb (bit f x) 1 ≡ b → (bit f x + length (those (holding f) xs) % 2) % 2 ≡ length (choose b (x ∷ those (holding f) xs) (those (holding f) xs)) % 2
+    next : (b : Bool) → eqb (bit f x) 1 ≡ b
+        → (bit f x + length (those (holding f) xs) % 2) % 2 ≡ length (choose b (x ∷ those (holding f) xs) (those (holding f) xs)) % 2
     next true e = omega (arith, eqb-true (bit f x) 1 e)
     next false e = by-cases (ℕ-discrete (bit f x) 1) (λ q. absurd (eqb-false (bit f x) 1 e q)) (λ ne. omega arith)
 
@@ -96,7 +97,8 @@ module _ (n : ℕ) (s t : Runs) (l v w : ℕ) (a : Multiply n s l v) (b : Multip
   multiply-moved p mask k =
       moved-is n p (k .renaming) v w (multiply-lt n t l w b)
       (λ f h. multiply-bit n t l w b (getD p f 0)
-      ∙ ap (λ (c : ℕ). c % 2) (sym (holding-equal n s t p mask k l f h (length (those (holding f) (a .words))) (length (those (holding (getD p f 0)) (b .words)))
+      ∙ ap (λ (c : ℕ). c % 2) (sym (holding-equal n s t p mask k l f h (length (those (holding f) (a .words)))
+      (length (those (holding (getD p f 0)) (b .words)))
       (multiply-count n s l v a f) (multiply-count n t l w b (getD p f 0))))
       ∙ sym (multiply-bit n s l v a f))
 

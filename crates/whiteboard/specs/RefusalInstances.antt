@@ -18,7 +18,8 @@ use Rattle.regular.specs.Runs.{runsOf, Agree, Table}
 use Rattle.regular.specs.Words.{Word, NoShort, Generated, Independent, total}
 use Rattle.regular.specs.Columns.{planOf, runOf, Below, Spans}
 use Rattle.regular.specs.Designs.{Holds}
-use Rattle.regular.specs.Refusals.{SizeFault, ResolutionFault, WordsFault, ColumnsFault, ListFault, RecordFault, TableFault, WantedFault, LentFault, RoomFault, either, sizeFaults, wordsFaults, runsFaults, designFaults, columnsFaults, Lowest}
+use Rattle.regular.specs.Refusals.{SizeFault, ResolutionFault, WordsFault, ColumnsFault, ListFault, RecordFault, TableFault, WantedFault, LentFault}
+use Rattle.regular.specs.Refusals.{RoomFault, either, sizeFaults, wordsFaults, runsFaults, designFaults, columnsFaults, Lowest}
 use Rattle.regular.specs.RefusalLaws.{lowest-none, lowest-at, words-least, none-lowest, lent-is}
 use Rattle.regular.specs.PlanLists.{BytesFault}
 use Rattle.regular.specs.Catalogues.{catalogueFaults}
@@ -28,7 +29,9 @@ use Rattle.standard.specs.Total.{total-unit}
 use Rattle.words.specs.Short.{repeat-gives-short}
 use Rattle.words.specs.Switches.{agree-sym, no-short-agree, agree-refl}
 use Rattle.whiteboard.specs.ListTests.{all, all-at}
-use Rattle.whiteboard.specs.PlanInstances.{size-4, runsABC, whole-4, table-abc, not-regular, no-short-abc, short-abc, below-abc, spans-abc, not-spans, recordABC, dependent-twice, standard-abc, holds-abc, disguised, table-disguised, no-short-disguised, repeat-ab}
+use Rattle.whiteboard.specs.PlanInstances.{size-4, runsABC, whole-4, table-abc, not-regular, no-short-abc, short-abc}
+use Rattle.whiteboard.specs.PlanInstances.{below-abc, spans-abc, not-spans, recordABC, dependent-twice, standard-abc}
+use Rattle.whiteboard.specs.PlanInstances.{holds-abc, disguised, table-disguised, no-short-disguised, repeat-ab}
 use Rattle.whiteboard.specs.Samples.{abc, abcd, fives, catalogue-4, catalogue-5, words-abcd}
 use Rattle.whiteboard.specs.Tests.{below, below-at, only-zero}
 
@@ -73,7 +76,8 @@ refusal-3 = lowest-at (sizeFaults 5 1 2) 3 (omega arith) (inr (ResolutionFault.o
     least k f = ⊎-elim (λ s. absurd (size-none 5 1 size-5 k s)) (wanted k) f
 
 -- a list of words of a size: its faults are those of the words
-words-lowest : (n g : ℕ) (ws : List ℕ) (r : ℕ) → Size n g → 0 < r → WordsFault n g ws r → ((k : ℕ) → WordsFault n g ws k → r ≤ k) → Lowest (wordsFaults n g ws) r
+words-lowest : (n g : ℕ) (ws : List ℕ) (r : ℕ) → Size n g → 0 < r → WordsFault n g ws r → ((k : ℕ) → WordsFault n g ws k → r ≤ k)
+    → Lowest (wordsFaults n g ws) r
 words-lowest n g ws r s p f least = lowest-at (wordsFaults n g ws) r p (inr f) (λ k h. ⊎-elim (λ q. absurd (size-none n g s k q)) (least k) h)
 
 -- 4: N 5, G 1, two words
@@ -136,7 +140,8 @@ columns-none n m c b s ns k (ColumnsFault.short h) = omega (arith, h .few, ns (h
 list-none : (n : ℕ) (c : List ℕ) → length c ≡ n → (k : ℕ) → ListFault n c k → ⊥
 list-none n c e k (ListFault.count h) = h e
 
-columns-accepted : (n g : ℕ) (c : List ℕ) → Size n g → length c ≡ n → Below n (n - g) c → Spans n (n - g) c → NoShort n 3 (planOf n (n - g) c) → Lowest (columnsFaults n g c) 0
+columns-accepted : (n g : ℕ) (c : List ℕ) → Size n g → length c ≡ n → Below n (n - g) c → Spans n (n - g) c → NoShort n 3 (planOf n (n - g) c)
+    → Lowest (columnsFaults n g c) 0
 columns-accepted n g c s e b sp ns =
     lowest-none (columnsFaults n g c) (λ k f. ⊎-elim (size-none n g s k) (λ h. ⊎-elim (list-none n c e k) (columns-none n (n - g) c b sp ns k) h) f)
 
@@ -144,7 +149,8 @@ pub accepted-columns : Lowest (columnsFaults 4 1 abc) 0
 accepted-columns = columns-accepted 4 1 abc size-4 refl below-abc spans-abc no-short-abc
 
 pub accepted-abcd : Lowest (columnsFaults 4 1 abcd) 0
-accepted-abcd = let k = catalogue-4 .sound 1 (omega arith) in columns-accepted 4 1 abcd size-4 refl (k .smallest .columns .below) (k .smallest .columns .rank) (k .long)
+accepted-abcd =
+    let k = catalogue-4 .sound 1 (omega arith) in columns-accepted 4 1 abcd size-4 refl (k .smallest .columns .below) (k .smallest .columns .rank) (k .long)
 
 -- one word w that generates the plan of an entry
 one-word : (w : ℕ) (c : List ℕ) → w < 16 → 0 < w → Entry 4 3 3 c → Agree (Generated 4 1 (w ∷ [])) (planOf 4 3 c) → Lowest (wordsFaults 4 1 (w ∷ [])) 0
@@ -155,7 +161,9 @@ one-word w c l p e a = lowest-none (wordsFaults 4 1 (w ∷ [])) (λ k f. ⊎-eli
     within i h = let z : i ≡ 0 = omega arith in subst (λ (j : ℕ). getD (w ∷ []) j 0 < 16) (sym z) l
 
     independent : Independent 1 (w ∷ [])
-    independent s h z = by-cases (ℕ-discrete s 0) (λ q. q) (λ ne. absurd (omega (arith, sym (total-unit (w ∷ []) 0 1 (omega arith)) ∙ sym (ap (total (w ∷ []) 1) (one s h ne)) ∙ z)))
+    independent s h z =
+        by-cases (ℕ-discrete s 0) (λ q. q) (λ ne.
+        absurd (omega (arith, sym (total-unit (w ∷ []) 0 1 (omega arith)) ∙ sym (ap (total (w ∷ []) 1) (one s h ne)) ∙ z)))
       where
         one : (s : ℕ) → s < 2 ^ 1 → (s ≡ 0 → ⊥) → s ≡ 1
         one s h ne = omega arith
@@ -229,7 +237,8 @@ accepted-5 i h e =
     let k = catalogue-5 .sound i h in
     columns-accepted 5 1 (getD fives i []) size-5 e (k .smallest .columns .below) (k .smallest .columns .rank) (k .long)
 
-pub refusal-8 : Lowest (either (either (columnsFaults 5 1 (1 ∷ 2 ∷ 3 ∷ 4 ∷ 8 ∷ [])) (columnsFaults 5 1 (1 ∷ 2 ∷ 4 ∷ 7 ∷ 8 ∷ []))) (LentFault 5 (0 ∷ 0 ∷ 0 ∷ 0 ∷ []))) 8
+pub refusal-8 : Lowest (either (either (columnsFaults 5 1 (1 ∷ 2 ∷ 3 ∷ 4 ∷ 8 ∷ [])) (columnsFaults 5 1 (1 ∷ 2 ∷ 4 ∷ 7 ∷ 8 ∷ [])))
+    (LentFault 5 (0 ∷ 0 ∷ 0 ∷ 0 ∷ []))) 8
 refusal-8 =
     lowest-at (either (either (columnsFaults 5 1 (1 ∷ 2 ∷ 3 ∷ 4 ∷ 8 ∷ [])) (columnsFaults 5 1 (1 ∷ 2 ∷ 4 ∷ 7 ∷ 8 ∷ []))) (LentFault 5 (0 ∷ 0 ∷ 0 ∷ 0 ∷ [])))
     8 (omega arith) (inr (LentFault.few (omega arith)))
@@ -243,7 +252,8 @@ refusal-8 =
 pub refusal-9 : Lowest (catalogueFaults 5 1 3 (λ k. k ≤ 2)) 9
 refusal-9 =
     lowest-at (catalogueFaults 5 1 3 (λ k. k ≤ 2)) 9 (omega arith)
-    (inr (RoomFault.more 3 (λ i. getD fives i []) catalogue-5 (λ l. omega arith))) (λ k f. ⊎-elim (λ s. ⊎-elim (λ q. absurd (size-none 5 1 size-5 k q)) (wanted k) s) (room k) f)
+    (inr (RoomFault.more 3 (λ i. getD fives i []) catalogue-5 (λ l. omega arith)))
+    (λ k f. ⊎-elim (λ s. ⊎-elim (λ q. absurd (size-none 5 1 size-5 k q)) (wanted k) s) (room k) f)
   where
     wanted : (k : ℕ) → ResolutionFault 3 k → 9 ≤ k
     wanted k (ResolutionFault.outside h) = ⊎-elim (λ l. absurd (omega arith)) (λ l. absurd (omega arith)) h

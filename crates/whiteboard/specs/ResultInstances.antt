@@ -86,7 +86,8 @@ records-none k f =
     k (p .1 .1)) f
 
 accepted-reduction : Lowest (either (runsFaults 4 1 disguised) (recordsFaults 4 1 records)) 0
-accepted-reduction = lowest-then (runsFaults 4 1 disguised) (recordsFaults 4 1 records) 0 accepted-disguised (lowest-none (recordsFaults 4 1 records) records-none)
+accepted-reduction =
+    lowest-then (runsFaults 4 1 disguised) (recordsFaults 4 1 records) 0 accepted-disguised (lowest-none (recordsFaults 4 1 records) records-none)
 
 pub formed-disguised : Formed 4 3 (ofRuns 4 1 disguised) (recordABC .columns) (3 ∷ 0 ∷ 1 ∷ 2 ∷ 9 ∷ []) 9
 unfolding below moved
@@ -100,7 +101,8 @@ formed-disguised = record {
 pub reduces : ReducesAmong 4 1 (ofRuns 4 1 disguised) records five (3 ∷ 0 ∷ 1 ∷ 2 ∷ 9 ∷ []) (record { number = 0; mask = 9; place = 2; design = recordABC })
 unfolding below moved
 reduces = record {
-  number = lowest-then (either (runsFaults 4 1 disguised) (recordsFaults 4 1 records)) (LentFault 4 five) 0 accepted-reduction (lent-fits 4 five (omega arith));
+  number = lowest-then (either (runsFaults 4 1 disguised) (recordsFaults 4 1 records)) (LentFault 4 five) 0 accepted-reduction
+      (lent-fits 4 five (omega arith));
   blank-design = λ h. absurd (omega arith);
   no-mask = λ h. absurd (omega arith);
   no-place = λ h. absurd (omega arith);
@@ -113,7 +115,8 @@ reduces = record {
 
 pub reduces-refused : ReducesAmong 4 1 (ofRuns 4 1 disguised) records (9 ∷ 9 ∷ []) (9 ∷ 9 ∷ []) (record { number = 8; mask = 0; place = 0; design = blank })
 reduces-refused = record {
-  number = lowest-then (either (runsFaults 4 1 disguised) (recordsFaults 4 1 records)) (LentFault 4 (9 ∷ 9 ∷ [])) 8 accepted-reduction (lent-short 4 (9 ∷ 9 ∷ []) (omega arith));
+  number = lowest-then (either (runsFaults 4 1 disguised) (recordsFaults 4 1 records)) (LentFault 4 (9 ∷ 9 ∷ [])) 8 accepted-reduction
+      (lent-short 4 (9 ∷ 9 ∷ []) (omega arith));
   blank-design = λ h. refl;
   no-mask = λ h. refl;
   no-place = λ h. refl;
@@ -160,7 +163,8 @@ pub plans-none : (k : ℕ) → plansFaults 4 1 plans k → ⊥
 plans-none k f =
     ⊎-elim (size-none 4 1 size-4 k)
     (λ p. ⊎-elim (bytes k)
-    (λ q. each-plan (λ c. columnsFaults 4 1 c k → ⊥) (none-lowest (columnsFaults 4 1 abcd) accepted-abcd k) (none-lowest (columnsFaults 4 1 abc) accepted-columns k)
+    (λ q. each-plan (λ c. columnsFaults 4 1 c k → ⊥) (none-lowest (columnsFaults 4 1 abcd) accepted-abcd k)
+    (none-lowest (columnsFaults 4 1 abc) accepted-columns k)
     (q .0) (q .1 .0) (q .1 .1)) p) f
   where
     bytes : (k : ℕ) → BytesFault 4 plans k → ⊥
@@ -177,7 +181,8 @@ own-carries : (c d : List ℕ) → Equal 4 c d → Carries 4 (planOf 4 3 c) (pla
 unfolding listTo below
 own-carries c d e =
     carries-agree 4 (planOf 4 3 c) (planOf 4 3 c) (planOf 4 3 c) (planOf 4 3 d) own 0 (agree-refl (planOf 4 3 c)) (plan-cols 4 3 c d e)
-    (carries-names 4 (planOf 4 3 c) (planOf 4 3 c) (kept 4) own 0 (agree-at (λ f. getD own f 0) (λ f. getD (kept 4) f 0) 4 refl) (carries-refl 4 (planOf 4 3 c) (plan-within 4 3 c)))
+    (carries-names 4 (planOf 4 3 c) (planOf 4 3 c) (kept 4) own 0 (agree-at (λ f. getD own f 0) (λ f. getD (kept 4) f 0) 4 refl)
+    (carries-refl 4 (planOf 4 3 c) (plan-within 4 3 c)))
 
 equal-filled : Equal 4 abc filled
 unfolding below
@@ -212,7 +217,8 @@ pub reduces-into-refused : ReducesInto 4 1 (ofColumns 4 1 abc) plans (9 ∷ 9 �
 reduces-into-refused = record {
   lowest = lowest-first (either (columnsFaults 4 1 abc) (either (plansFaults 4 1 plans) (LentFault 4 (9 ∷ 9 ∷ [])))) (LentFault 4 five) 8 (omega arith)
       (lowest-then (columnsFaults 4 1 abc) (either (plansFaults 4 1 plans) (LentFault 4 (9 ∷ 9 ∷ []))) 8 accepted-columns
-      (lowest-then (plansFaults 4 1 plans) (LentFault 4 (9 ∷ 9 ∷ [])) 8 (lowest-none (plansFaults 4 1 plans) plans-none) (lent-short 4 (9 ∷ 9 ∷ []) (omega arith))))
+      (lowest-then (plansFaults 4 1 plans) (LentFault 4 (9 ∷ 9 ∷ [])) 8 (lowest-none (plansFaults 4 1 plans) plans-none)
+      (lent-short 4 (9 ∷ 9 ∷ []) (omega arith))))
       (λ k f. omega (arith, lent-is 4 five k f));
   no-mask = λ h. refl;
   no-place = λ h. refl;
@@ -252,6 +258,8 @@ reduces-each = record {
     names-at : (i : ℕ) → HasPlan 4 plans i → (f : ℕ) → f < 4 → getD (planAt 4 owns i) f 0 ≡ getD own f 0
     names-at i h =
         by-cases (ℕ-discrete i 0)
-        (λ e. subst (λ (j : ℕ). (f : ℕ) → f < 4 → getD (planAt 4 owns j) f 0 ≡ getD own f 0) (sym e) (agree-at (λ f. getD (planAt 4 owns 0) f 0) (λ f. getD own f 0) 4 refl))
+        (λ e. subst (λ (j : ℕ). (f : ℕ) → f < 4 → getD (planAt 4 owns j) f 0 ≡ getD own f 0) (sym e)
+        (agree-at (λ f. getD (planAt 4 owns 0) f 0) (λ f. getD own f 0) 4 refl))
         (λ ne. let e : i ≡ 1 = omega arith in
-        subst (λ (j : ℕ). (f : ℕ) → f < 4 → getD (planAt 4 owns j) f 0 ≡ getD own f 0) (sym e) (agree-at (λ f. getD (planAt 4 owns 1) f 0) (λ f. getD own f 0) 4 refl))
+        subst (λ (j : ℕ). (f : ℕ) → f < 4 → getD (planAt 4 owns j) f 0 ≡ getD own f 0) (sym e)
+        (agree-at (λ f. getD (planAt 4 owns 1) f 0) (λ f. getD own f 0) 4 refl))

@@ -85,7 +85,8 @@ words-true n g ws c p r e =
     }
 
 -- different plans of one pattern
-different-true : (n g : ℕ) (vs ws p : List ℕ) (l v w : ℕ) → Passed (tests (Row.different n g vs ws p l v w)) → DifferentRow n (Generated n g vs) (Generated n g ws) p l v w
+different-true : (n g : ℕ) (vs ws p : List ℕ) (l v w : ℕ) → Passed (tests (Row.different n g vs ws p l v w))
+    → DifferentRow n (Generated n g vs) (Generated n g ws) p l v w
 different-true n g vs ws p l v w e =
     let s = Generated n g vs in
     let t = Generated n g ws in
@@ -96,7 +97,8 @@ different-true n g vs ws p l v w e =
     let one = is-pattern n g vs p a (e .1 .1 .0) in
     let other = is-pattern n g ws p b (e .1 .1 .1 .0) in
     record {
-      different = λ k. eqb-false (letters v) (letters w) (not-true (eqb (letters v) (letters w)) (e .1 .1 .1 .1 .1 .1 .0)) (multiply-same n s t l v w first second k);
+      different = λ k. eqb-false (letters v) (letters w) (not-true (eqb (letters v) (letters w)) (e .1 .1 .1 .1 .1 .1 .0))
+          (multiply-same n s t l v w first second k);
       patterns = (one, other);
       length = Differ.nowhere p one other;
       first = first;

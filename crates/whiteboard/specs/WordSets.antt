@@ -60,7 +60,8 @@ module _ (n m : ℕ) (a d p : List ℕ) (sa : StandardForm n m a) (sd : Standard
   run-unmoved y q =
       let e = moved-unmoved n p (r .renaming) y (plan-within n m d y q) in
       run-of-even n m a sa (unmoved p n y) (unmoved-lt n p y)
-      (λ w h. sym (odd-moved n p (r .renaming) (unmoved p n y) w (h .within)) ∙ ap (λ (z : ℕ). odd z (moved p n w)) e ∙ even-run n m d y (moved p n w) q (r .into w h))
+      (λ w h. sym (odd-moved n p (r .renaming) (unmoved p n y) w (h .within)) ∙ ap (λ (z : ℕ). odd z (moved p n w)) e
+      ∙ even-run n m d y (moved p n w) q (r .into w h))
 
   columns-carried : Carries n (planOf n m a) (planOf n m d) p 0
   columns-carried = record {
@@ -77,7 +78,8 @@ module _ (n m : ℕ) (a d p : List ℕ) (sa : StandardForm n m a) (sd : Standard
 module _ (n m : ℕ) (t : List ℕ) (tab : Table n m t) where
   columns-word : (w : ℕ) → Word n (runsOf t) w → Word n (planOf n m (standard t n)) w
   columns-word w h =
-      word-agree n (switched (getD t 0 0) (runsOf t)) (planOf n m (standard t n)) (table-standard n m t tab .plan) w (word-switched n (getD t 0 0) (runsOf t) w h)
+      word-agree n (switched (getD t 0 0) (runsOf t)) (planOf n m (standard t n)) (table-standard n m t tab .plan) w
+      (word-switched n (getD t 0 0) (runsOf t) w h)
 
   table-word : (w : ℕ) → Word n (planOf n m (standard t n)) w → Word n (runsOf t) w
   table-word w h =
@@ -90,7 +92,8 @@ pub words-same : (n m : ℕ) (t u p : List ℕ) → Table n m t → Table n m u 
 words-same n m t u p first second r =
     let a = standard t n in
     let d = standard u n in
-    let k : Carries n (planOf n m a) (planOf n m d) p 0 = columns-carried n m a d p (table-standard n m t first .form) (table-standard n m u second .form) (record {
+    let k : Carries n (planOf n m a) (planOf n m d) p 0 =
+    columns-carried n m a d p (table-standard n m t first .form) (table-standard n m u second .form) (record {
       renaming = r .renaming;
       into = λ w h. columns-word n m u second (moved p n w) (r .into w (table-word n m t first w h));
       onto = λ v h. let o = r .onto v (table-word n m u second v h) in (o .0, (columns-word n m t first (o .0) (o .1 .0), o .1 .1));

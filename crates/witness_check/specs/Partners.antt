@@ -33,7 +33,8 @@ module _ (n : ℕ) (t u p : List ℕ) (mask : ℕ) where
   partner-at i j x e h f = subst (λ (y : ℕ). In y u) (f ∙ ap (λ (y : ℕ). bitXor y mask) e) (place-in u j h)
 
   -- .. or at none of the places
-  pub partner-none : (i j x : ℕ) → x ≡ moved p n (getD t i 0) → i < length t → length u ≤ j → ((k : ℕ) → k < j → getD u k 0 ≡ bitXor x mask → ⊥) → NoPartner n t u p mask
+  pub partner-none : (i j x : ℕ) → x ≡ moved p n (getD t i 0) → i < length t → length u ≤ j → ((k : ℕ) → k < j → getD u k 0 ≡ bitXor x mask → ⊥)
+      → NoPartner n t u p mask
   partner-none i j x e h l f = record {
     run = getD t i 0;
     is = place-in t i h;

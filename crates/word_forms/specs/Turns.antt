@@ -101,7 +101,8 @@ column-value n piv a f unit v hf he fill hv =
     ∙ ap₂ (pick (eqb (getD piv f 0) 0)) he (total-cols a (wordColumns piv n) f (getD piv f 0) (fill .done))
     ∙ sym (wc-at n piv f hf)
 
-pub unit-next : (piv : List ℕ) (f unit u : ℕ) → unit ≡ 2 ^ freeBefore piv f → u ≡ pick (eqb (getD piv f 0) 0) (unit + unit) unit → u ≡ 2 ^ freeBefore piv (f + 1)
+pub unit-next : (piv : List ℕ) (f unit u : ℕ) → unit ≡ 2 ^ freeBefore piv f → u ≡ pick (eqb (getD piv f 0) 0) (unit + unit) unit
+    → u ≡ 2 ^ freeBefore piv (f + 1)
 unfolding freeBefore
 unit-next piv f unit u e h = rw (add-one f) (h ∙ go (eqb (getD piv f 0) 0))
   where

@@ -14,7 +14,8 @@ ghost use Rattle.word_forms.specs.Turns.{columnOf, Elimination};
 
 // Whether every word is below `end`.
 pub fn letters_below(ws: &[u16], end: usize) -> bool
-    ensures { λ r. ⌜ (r ≡ true → ((i : ℕ) → i < length (now (ws .entry)) → getD (now (ws .entry)) i 0 < end)) × (r ≡ false → ((i : ℕ) × ((i < length (now (ws .entry))) × (end ≤ getD (now (ws .entry)) i 0)))) ⌝ }
+    ensures { λ r. ⌜ (r ≡ true → ((i : ℕ) → i < length (now (ws .entry)) → getD (now (ws .entry)) i 0 < end))
+        × (r ≡ false → ((i : ℕ) × ((i < length (now (ws .entry))) × (end ≤ getD (now (ws .entry)) i 0)))) ⌝ }
 {
     let mut i = 0;
     while i < ws.len() {
@@ -158,7 +159,8 @@ fn read_columns(n: usize, piv: [u16; 16]) -> [u8; 16]
 // The standard columns of the plan that the words generate, found exactly if they are independent.
 pub fn words_columns(n: usize, ws: &[u16]) -> regular::Standardized
     requires { ⌜ (n ≤ 16) × (length (now ws) ≤ n) × (n ≤ length (now ws) + 7) × ((i : ℕ) → i < length (now ws) → getD (now ws) i 0 < 2 ^ n) ⌝ }
-    ensures { λ r. ⌜ Found n (n - length (now (ws .entry))) (Independent (length (now (ws .entry))) (now (ws .entry))) (Generated n (length (now (ws .entry))) (now (ws .entry))) (r .ok) (r .columns) ⌝ }
+    ensures { λ r. ⌜ Found n (n - length (now (ws .entry))) (Independent (length (now (ws .entry))) (now (ws .entry)))
+        (Generated n (length (now (ws .entry))) (now (ws .entry))) (r .ok) (r .columns) ⌝ }
 {
     let e = eliminate(n, ws);
     if !e.ok {

@@ -47,7 +47,8 @@ wc-prefix piv k (suc d) g h =
 wc-same : (piv : List ℕ) (k n g : ℕ) → k ≤ n → g < k → getD (wordColumns piv n) g 0 ≡ getD (wordColumns piv k) g 0
 wc-same piv k n g h l = let e : n ≡ (n - k) + k = omega arith in ap (λ (i : ℕ). getD (wordColumns piv i) g 0) e ∙ wc-prefix piv k (n - k) g l
 
-wc-last : (piv : List ℕ) (f : ℕ) → getD (wordColumns piv (suc f)) f 0 ≡ pick (eqb (getD piv f 0) 0) (2 ^ freeBefore piv f) (total (wordColumns piv f) f (getD piv f 0))
+wc-last : (piv : List ℕ) (f : ℕ)
+    → getD (wordColumns piv (suc f)) f 0 ≡ pick (eqb (getD piv f 0) 0) (2 ^ freeBefore piv f) (total (wordColumns piv f) f (getD piv f 0))
 unfolding wordColumns
 wc-last piv f = getD-at (wordColumns piv f) _ [] 0 f (wc-length piv f)
 
@@ -71,7 +72,8 @@ module _ (n : ℕ) (piv : List ℕ) (lasts : Lasts n piv) where
   col-at : (f : ℕ) → f < n → getD a f 0 ≡ pick (eqb (getD piv f 0) 0) (2 ^ freeBefore piv f) (total a f (getD piv f 0))
   col-at f h =
       wc-same piv (suc f) n f h (omega arith) ∙ wc-last piv f
-      ∙ ap (pick (eqb (getD piv f 0) 0) (2 ^ freeBefore piv f)) (sym (total-cols a (wordColumns piv f) f (getD piv f 0) (λ i l. wc-same piv f n i (omega arith) l)))
+      ∙ ap (pick (eqb (getD piv f 0) 0) (2 ^ freeBefore piv f))
+      (sym (total-cols a (wordColumns piv f) f (getD piv f 0) (λ i l. wc-same piv f n i (omega arith) l)))
 
   col-free : (f : ℕ) → f < n → getD piv f 0 ≡ 0 → getD a f 0 ≡ 2 ^ freeBefore piv f
   col-free f h e = col-at f h ∙ ap (λ (t : Bool). pick t (2 ^ freeBefore piv f) (total a f (getD piv f 0))) (eq-eqb (getD piv f 0) 0 e)
@@ -117,7 +119,8 @@ module _ (n : ℕ) (piv : List ℕ) (lasts : Lasts n piv) where
   words-form : StandardForm n (freeBefore piv n) a
   words-form =
       record {
-        next = λ f h. rw (units-is f (omega arith)) (by-cases (ℕ-discrete (getD piv f 0) 0) (λ z. omega (arith, col-free f h z)) (λ z. omega (arith, pivot-lt f h z)));
+        next = λ f h. rw (units-is f (omega arith))
+            (by-cases (ℕ-discrete (getD piv f 0) 0) (λ z. omega (arith, col-free f h z)) (λ z. omega (arith, pivot-lt f h z)));
         units = units-is n (omega arith);
       }
 
@@ -164,7 +167,8 @@ module _ (n : ℕ) (piv : List ℕ) (lasts : Lasts n piv) where
         let le = free-length piv f in
         by-cases (ℕ-discrete g f)
         (λ s. rw s (subst (λ (k : ℕ). Fits (f ∷ freeAt piv f) one f k) (ap (λ (k : ℕ). 2 ^ k) le ∙ sym (col-free f h z)) (fits-fresh (freeAt piv f) one f)))
-        (λ ne. fits-keep (freeAt piv f) one f g (getD a g 0) (subst (λ (k : ℕ). getD a g 0 < 2 ^ k) (sym le) (col-lt f g (omega arith) (omega arith))) (ih g (omega arith)))
+        (λ ne. fits-keep (freeAt piv f) one f g (getD a g 0) (subst (λ (k : ℕ). getD a g 0 < 2 ^ k) (sym le) (col-lt f g (omega arith) (omega arith)))
+        (ih g (omega arith)))
     fits-at f false h e ih g l =
         let z = eqb-false (getD piv f 0) 0 e in
         by-cases (ℕ-discrete g f)
@@ -222,7 +226,9 @@ pub words-standard : (n g : ℕ) (ws : List ℕ) → n ≤ 16 → g ≤ n → ((
 words-standard n g ws hn hg hw ind = pivots-words n g ws (pivotsAt ws n g) hg (eliminates n g ws hn hw ind g (omega arith))
 
 -- the column of factor f from those before it
-pub wc-at : (n : ℕ) (piv : List ℕ) (f : ℕ) → f < n → getD (wordColumns piv n) f 0 ≡ pick (eqb (getD piv f 0) 0) (2 ^ freeBefore piv f) (total (wordColumns piv n) f (getD piv f 0))
+pub wc-at : (n : ℕ) (piv : List ℕ) (f : ℕ) → f < n
+    → getD (wordColumns piv n) f 0 ≡ pick (eqb (getD piv f 0) 0) (2 ^ freeBefore piv f) (total (wordColumns piv n) f (getD piv f 0))
 wc-at n piv f h =
     wc-same piv (suc f) n f h (omega arith) ∙ wc-last piv f
-    ∙ ap (pick (eqb (getD piv f 0) 0) (2 ^ freeBefore piv f)) (sym (total-cols (wordColumns piv n) (wordColumns piv f) f (getD piv f 0) (λ i l. wc-same piv f n i (omega arith) l)))
+    ∙ ap (pick (eqb (getD piv f 0) 0) (2 ^ freeBefore piv f))
+    (sym (total-cols (wordColumns piv n) (wordColumns piv f) f (getD piv f 0) (λ i l. wc-same piv f n i (omega arith) l)))

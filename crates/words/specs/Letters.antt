@@ -42,7 +42,8 @@ letter-none ws e zero t h = bit-none e
 letter-none ws e (suc k) t h =
     let x = getD ws k 0 in
     bit-xor e (total ws k t) (x * bit k t)
-    ∙ ap₂ (λ (p q : ℕ). (p + q) % 2) (letter-none ws e k t (λ j l. h j (omega arith))) (bit-times e x (bit k t) (omega arith) ∙ ap (λ (d : ℕ). d * bit k t) (h k (omega arith)))
+    ∙ ap₂ (λ (p q : ℕ). (p + q) % 2) (letter-none ws e k t (λ j l. h j (omega arith)))
+    (bit-times e x (bit k t) (omega arith) ∙ ap (λ (d : ℕ). d * bit k t) (h k (omega arith)))
     ∙ omega arith
 
 -- a letter of the i-th word only: it stands in a sum exactly if the i-th word is taken
@@ -56,10 +57,12 @@ letter-one ws e i (suc k) t l b h =
     ∙ by-cases (ℕ-discrete k i)
     (λ q.
     let c : bit e x ≡ 1 = ap (λ (j : ℕ). bit e (getD ws j 0)) q ∙ b in
-    ap₂ (λ (p r : ℕ). (p + r) % 2) (letter-none ws e k t (λ j r. h j (omega arith) (λ z. omega arith))) (bit-times e x (bit k t) (omega arith) ∙ ap (λ (d : ℕ). d * bit k t) c)
+    ap₂ (λ (p r : ℕ). (p + r) % 2) (letter-none ws e k t (λ j r. h j (omega arith) (λ z. omega arith)))
+    (bit-times e x (bit k t) (omega arith) ∙ ap (λ (d : ℕ). d * bit k t) c)
     ∙ ap (λ (j : ℕ). (0 + 1 * bit j t) % 2) q ∙ omega arith)
     (λ q.
-    ap₂ (λ (p r : ℕ). (p + r) % 2) (letter-one ws e i k t (omega arith) b (λ j r z. h j (omega arith) z)) (bit-times e x (bit k t) (omega arith) ∙ ap (λ (d : ℕ). d * bit k t) (h k (omega arith) q))
+    ap₂ (λ (p r : ℕ). (p + r) % 2) (letter-one ws e i k t (omega arith) b (λ j r z. h j (omega arith) z))
+    (bit-times e x (bit k t) (omega arith) ∙ ap (λ (d : ℕ). d * bit k t) (h k (omega arith) q))
     ∙ omega arith)
 
 -- sums of sets whose columns cancel

@@ -63,7 +63,8 @@ sum-none (suc n) piv s h z =
     (λ ne.
     let q : bit n s ≡ 1 = omega arith in
     let p : bit n (bitXor A (x * bit n s)) ≡ 1 =
-    bit-xor n A (x * bit n s) ∙ ap₂ (λ (a b : ℕ). (a + b) % 2) (bit-over n A la) (ap (λ (d : ℕ). bit n (x * d)) q ∙ (let o : x * 1 ≡ x = omega arith in ap (λ (y : ℕ). bit n y) o) ∙ last-bit n x e) in
+    bit-xor n A (x * bit n s) ∙ ap₂ (λ (a b : ℕ). (a + b) % 2) (bit-over n A la)
+    (ap (λ (d : ℕ). bit n (x * d)) q ∙ (let o : x * 1 ≡ x = omega arith in ap (λ (y : ℕ). bit n y) o) ∙ last-bit n x e) in
     absurd (omega (arith, z n (omega arith) e))))
     (h n (omega arith)) in
     let same : bitXor A (x * bit n s) ≡ A = ap (bitXor A) clear ∙ xor-zero-r A in
@@ -105,12 +106,14 @@ reduced-is (suc n) piv h w =
       clear = λ f l e. by-cases (ℕ-discrete f n)
           (λ s. rw s
           (ap (λ (y : ℕ). bit n y) (r .is) ∙ bit-xor n v A
-          ∙ ap₂ (λ (a b : ℕ). (a + b) % 2) (cleared d x n w refl (omega arith) (last-bit n x (subst (λ (g : ℕ). getD piv g 0 / 2 ^ g ≡ 1) s e))) (bit-over n A (sum-lt n piv hn q))))
+          ∙ ap₂ (λ (a b : ℕ). (a + b) % 2) (cleared d x n w refl (omega arith) (last-bit n x (subst (λ (g : ℕ). getD piv g 0 / 2 ^ g ≡ 1) s e)))
+          (bit-over n A (sum-lt n piv hn q))))
           (λ ne. r .clear f (omega arith) e);
     }
 
 -- the last letter
-last-at : (f w : ℕ) (t : Bool) (k : ℕ) → eqb (bit f w) 1 ≡ t → w < 2 ^ suc f → (w < 2 ^ f → (k < f) × (w / 2 ^ k ≡ 1)) → (pick t f k < suc f) × (w / 2 ^ pick t f k ≡ 1)
+last-at : (f w : ℕ) (t : Bool) (k : ℕ) → eqb (bit f w) 1 ≡ t → w < 2 ^ suc f → (w < 2 ^ f → (k < f) × (w / 2 ^ k ≡ 1))
+    → (pick t f k < suc f) × (w / 2 ^ pick t f k ≡ 1)
 last-at f w true k e h ih =
     let b : bit f w ≡ 1 = eqb-true (bit f w) 1 e in
     let g : w < 2 ^ (1 + f) = subst (λ (i : ℕ). w < 2 ^ i) (sym (one-add f)) h in
@@ -135,7 +138,8 @@ free-same piv b zero h = refl
 free-same piv b (suc n) h = ap₂ (λ (k x : ℕ). k + pick (eqb x 0) 1 0) (free-same piv b n (λ f l. h f (omega arith))) (h n (omega arith))
 
 -- a place that was 0 is 0 no more
-free-less : (piv b : List ℕ) (p n : ℕ) → p < n → getD piv p 0 ≡ 0 → (getD b p 0 ≡ 0 → ⊥) → ((f : ℕ) → f < n → f ≢ p → getD piv f 0 ≡ getD b f 0) → freeBefore piv n ≡ freeBefore b n + 1
+free-less : (piv b : List ℕ) (p n : ℕ) → p < n → getD piv p 0 ≡ 0 → (getD b p 0 ≡ 0 → ⊥) → ((f : ℕ) → f < n → f ≢ p → getD piv f 0 ≡ getD b f 0)
+    → freeBefore piv n ≡ freeBefore b n + 1
 unfolding freeBefore
 free-less piv b p zero h z nz s = absurd (omega arith)
 free-less piv b p (suc n) h z nz s =
@@ -301,7 +305,8 @@ empty-word n g i ws piv hi P hw ind e =
     (total-more ws (suc i) g (d .0) hi (d .1 .0) ∙ d .1 .1 .0))
 
 -- independent words: the elimination goes through
-pub eliminates : (n g : ℕ) (ws : List ℕ) → n ≤ 16 → ((i : ℕ) → i < g → getD ws i 0 < 2 ^ n) → Independent g ws → (i : ℕ) → i ≤ g → Pivots n i ws (pivotsAt ws n i)
+pub eliminates : (n g : ℕ) (ws : List ℕ) → n ≤ 16 → ((i : ℕ) → i < g → getD ws i 0 < 2 ^ n) → Independent g ws → (i : ℕ) → i ≤ g
+    → Pivots n i ws (pivotsAt ws n i)
 unfolding pivotsAt
 eliminates n g ws hn hw ind zero h = pivots-none n ws hn
 eliminates n g ws hn hw ind (suc i) h =

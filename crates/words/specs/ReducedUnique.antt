@@ -142,7 +142,8 @@ module _ (n g : ℕ) (s : Runs) (ws : List ℕ) (gen : Generators n g s ws) (red
         (λ j f l p.
         let q = same-last j f l p in
         by-cases (ℕ-discrete i j)
-        (λ e. last-bit f (getD ws i 0) (subst (λ (d : ℕ). Last f (getD ws d 0)) (sym e) p) ∙ sym (last-bit f (getD vs i 0) (subst (λ (d : ℕ). Last f (getD vs d 0)) (sym e) q)))
+        (λ e. last-bit f (getD ws i 0) (subst (λ (d : ℕ). Last f (getD ws d 0)) (sym e) p)
+        ∙ sym (last-bit f (getD vs i 0) (subst (λ (d : ℕ). Last f (getD vs d 0)) (sym e) q)))
         (λ ne. red .apart i j f h l ne p ∙ sym (other .apart i j f h l ne q)))
 
 -- only the first g places count

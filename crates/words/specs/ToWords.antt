@@ -93,8 +93,10 @@ module _ (n m : ℕ) (a : List ℕ) (s : StandardForm n m a) where
       let ih : (i : ℕ) → i < f → getD (wordColumns piv n) i 0 ≡ getD a i 0 = same-to f (omega arith) in
       let c = wordColumns piv n in
       let here : getD c f 0 ≡ getD a f 0 = by-cases (ℕ-discrete (getD a f 0) (2 ^ unitsBefore a f))
-      (λ q. wc-at n piv f h ∙ ap (λ (t : Bool). pick t (2 ^ freeBefore piv f) (total c f (getD piv f 0))) (eq-eqb (getD piv f 0) 0 (piv-basic f h q)) ∙ ap (λ (k : ℕ). 2 ^ k) (free-units f (omega arith)) ∙ sym q)
-      (λ q. wc-at n piv f h ∙ ap (λ (t : Bool). pick t (2 ^ freeBefore piv f) (total c f (getD piv f 0))) (ne-eqb (getD piv f 0) 0 (λ z. word-some f (sym (piv-word f h q) ∙ z)))
+      (λ q. wc-at n piv f h ∙ ap (λ (t : Bool). pick t (2 ^ freeBefore piv f) (total c f (getD piv f 0))) (eq-eqb (getD piv f 0) 0 (piv-basic f h q))
+      ∙ ap (λ (k : ℕ). 2 ^ k) (free-units f (omega arith)) ∙ sym q)
+      (λ q. wc-at n piv f h
+      ∙ ap (λ (t : Bool). pick t (2 ^ freeBefore piv f) (total c f (getD piv f 0))) (ne-eqb (getD piv f 0) 0 (λ z. word-some f (sym (piv-word f h q) ∙ z)))
       ∙ ap (total c f) (piv-word f h q) ∙ total-cols c a f (wordAt a f) ih ∙ word-total f (omega (arith, s .next f h))) in
       by-cases (ℕ-discrete g f) (λ e. rw e here) (λ ne. ih g (omega arith))
 
@@ -130,7 +132,8 @@ module _ (n m : ℕ) (a : List ℕ) (s : StandardForm n m a) (f : ℕ) (h : f < 
       let r = w % 2 ^ f in
       let e : w ≡ 1 * 2 ^ f + r = sym (split w f) ∙ ap (λ (d : ℕ). d * 2 ^ f + r) q in
       let o : getD a f 0 * 1 ≡ getD a f 0 = omega arith in
-      total-more a (suc f) n w h (last-lt f w q) ∙ ap (total a (suc f)) e ∙ total-next a f 1 r (omega arith) (mod-lt w (pow-pos f)) ∙ ap (bitXor (total a f r)) o
+      total-more a (suc f) n w h (last-lt f w q) ∙ ap (total a (suc f)) e ∙ total-next a f 1 r (omega arith) (mod-lt w (pow-pos f))
+      ∙ ap (bitXor (total a f r)) o
 
   pub basic-last-of-none : getD a f 0 ≡ 2 ^ unitsBefore a f → (w : ℕ) → Word n (planOf n m a) w → w / 2 ^ f ≡ 1 → ⊥
   basic-last-of-none e w word q =

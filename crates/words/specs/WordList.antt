@@ -52,7 +52,8 @@ snoc-keep xs x i h = List·getD-append xs (x ∷ []) 0 i h
 snoc-last : (xs : List ℕ) (x i : ℕ) → length xs ≡ i → getD (xs ++ (x ∷ [])) i 0 ≡ x
 snoc-last xs x i h = getD-at xs x [] 0 i h
 
-listed-basic : (a : List ℕ) (f : ℕ) (os ws : List ℕ) → isUnit a f → unitsBefore a (suc f) ≡ unitsBefore a f + 1 → WordsListed a f os ws → WordsListed a (suc f) os ws
+listed-basic : (a : List ℕ) (f : ℕ) (os ws : List ℕ) → isUnit a f → unitsBefore a (suc f) ≡ unitsBefore a f + 1 → WordsListed a f os ws
+    → WordsListed a (suc f) os ws
 listed-basic a f os ws b e L = record {
   count = omega (arith, L .count);
   size = L .size;

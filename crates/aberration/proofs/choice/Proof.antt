@@ -4,6 +4,10 @@ use Rattle.aberration.specs.Less.{both-ready, chooses-none, chooses-seco
 use Rattle.aberration.proofs.choice.Statement.{statement}
 use Rattle.aberration.proofs.choice.Tie as tie
 
+-- from the comparison back to where nothing was refused
+abbrev opened : tie.After-second-less → tie.Else1
+opened c = c .before .before .before
+
 admit-words-requires : tie.Need-admit-words-requires
 admit-words-requires c κs = search needs
 
@@ -29,17 +33,19 @@ second-less-requires c κs =
 
 returns-2 : tie.Need-returns-2
 returns-2 c =
-    let p = c .before .before .before .before .before .before .before .admit-words in
-    let q = c .before .before .before .before .before .before .admit-words2 in
-    let l = c .before .before .before .before .before .lower-of in
-    chooses-second (p .ensures) (q .ensures) (l .ensures) (c .before .before .before .before .if1 .left) (c .before .second-less .ensures .0 (c .if2 .taken))
+    let o = opened (c .before) in
+    let p = o .before .before .before .admit-words in
+    let q = o .before .before .admit-words2 in
+    let l = o .before .lower-of in
+    chooses-second (p .ensures) (q .ensures) (l .ensures) (o .if1 .left) (c .before .second-less .ensures .0 (c .if2 .taken))
 
 returns-3 : tie.Need-returns-3
 returns-3 c =
-    let p = c .before .before .before .before .before .before .before .admit-words in
-    let q = c .before .before .before .before .before .before .admit-words2 in
-    let l = c .before .before .before .before .before .lower-of in
-    chooses-first (p .ensures) (q .ensures) (l .ensures) (c .before .before .before .before .if1 .left) (c .before .second-less .ensures .1 (c .if2 .left))
+    let o = opened (c .before) in
+    let p = o .before .before .before .admit-words in
+    let q = o .before .before .admit-words2 in
+    let l = o .before .lower-of in
+    chooses-first (p .ensures) (q .ensures) (l .ensures) (o .if1 .left) (c .before .second-less .ensures .1 (c .if2 .left))
 
 pub choice-spec : {M : Type 1} → statement M
 choice-spec =

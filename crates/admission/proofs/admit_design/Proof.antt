@@ -57,8 +57,10 @@ returns c =
     let s = c .before .before .before in
     let a = s .args in
     let q = c .before .before .size-number in
-    size-refused (a .n) (a .g) (either (fault s) (columns-fault s)) (plan s) (λ x. x ≡ 0) (most s) (q .result) (c .refused .result) (c .refused .ensures) (c .before .if1 .taken)
-    (λ k f. ⊎-elim (λ e. record-least (a .n) (a .n - a .g) (a .design) k e) (λ e. omega (arith, columns-least (a .n) (a .n - a .g) (a .design .columns) k e)) f)
+    size-refused (a .n) (a .g) (either (fault s) (columns-fault s)) (plan s) (λ x. x ≡ 0) (most s) (q .result) (c .refused .result)
+    (c .refused .ensures) (c .before .if1 .taken)
+    (λ k f. ⊎-elim (λ e. record-least (a .n) (a .n - a .g) (a .design) k e)
+    (λ e. omega (arith, columns-least (a .n) (a .n - a .g) (a .design .columns) k e)) f)
     (q .ensures .0)
 
 sub-m : tie.Need-sub-m
@@ -119,8 +121,10 @@ returns-5 c =
     let u = c .before .before .before .before in
     let o = sizes-at u in
     let a = o .before .before .args in
-    array-admission (RecordFault (a .n) (a .n - a .g) (a .design)) (a .n) (a .g) (a .design .columns) (a .design .columns) (c .admit-array .result) (most (o .before .before)) (sized o)
-    (record-0 (a .n) (a .n - a .g) (a .design) (factors u) (basics u) (c .before .before .unused-zero .ensures .0 (not-false _ (c .before .if4 .left)))) (λ f h. refl) (c .admit-array .ensures)
+    array-admission (RecordFault (a .n) (a .n - a .g) (a .design)) (a .n) (a .g) (a .design .columns) (a .design .columns) (c .admit-array .result)
+    (most (o .before .before)) (sized o)
+    (record-0 (a .n) (a .n - a .g) (a .design) (factors u) (basics u) (c .before .before .unused-zero .ensures .0 (not-false _ (c .before .if4 .left))))
+    (λ f h. refl) (c .admit-array .ensures)
 
 pub admit-design-spec : {M : Type 1} → statement M
 admit-design-spec =

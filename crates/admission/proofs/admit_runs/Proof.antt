@@ -52,14 +52,20 @@ start-2 c = start (c .before .before)
 counted : (c : tie.Else2) → length (runs (start-2 c)) ≡ 2 ^ (start-2 c .args .n - start-2 c .args .g)
 counted c = c .if2 .left ∙ c .before .power .ensures .0
 
+abbrev counted-3 : tie.Else3 → tie.Else2
+counted-3 c = c .before .before .before
+
 abbrev start-3 : tie.Else3 → tie.Start
-start-3 c = start-2 (c .before .before .before)
+start-3 c = start-2 (counted-3 c)
 
 low : (c : tie.Else3) (x : ℕ) → In x (runs (start-3 c)) → x < 2 ^ start-3 c .args .n
 low c x i = omega (arith, c .before .before .power2 .ensures .0, c .before .all-below .ensures .0 (not-false _ (c .if3 .left)) x i)
 
+abbrev low-4 : tie.Else4 → tie.Else3
+low-4 c = c .before .before .before
+
 abbrev start-4 : tie.Else4 → tie.Start
-start-4 c = start-3 (c .before .before .before)
+start-4 c = start-3 (low-4 c)
 
 standard : (c : tie.Else4)
     → StandardFor (start-4 c .args .n) (start-4 c .args .n - start-4 c .args .g) (plan (start-4 c)) (c .before .before .table-columns .result .columns)
@@ -76,7 +82,8 @@ returns c =
     let s = c .before .before .before .before in
     let a = s .args in
     let q = c .before .before .size-number in
-    size-refused (a .n) (a .g) (fault s) (runsOf (runs s)) (from s) (most s) (q .result) (c .refused .result) (c .refused .ensures) (c .before .if1 .taken) (table-least (a .n) (a .n - a .g) (runs s)) (q .ensures .0)
+    size-refused (a .n) (a .g) (fault s) (runsOf (runs s)) (from s) (most s) (q .result) (c .refused .result) (c .refused .ensures) (c .before .if1 .taken)
+    (table-least (a .n) (a .n - a .g) (runs s)) (q .ensures .0)
 
 sub-m : tie.Need-sub-m
 sub-m c = omega (arith, sized c .less)
@@ -110,7 +117,8 @@ returns-3 c =
     let s = start-2 o in
     let w = c .before .before .all-below .ensures .1 (not-true _ (c .before .if3 .taken)) in
     plan-refused (s .args .n) (s .args .g) (fault s) (runsOf (runs s)) (from s) (most s) 5 (omega arith) (sized (o .before .before))
-    (table-5 (s .args .n) (s .args .n - s .args .g) (runs s) (counted o) (w .0) (w .1 .0) (omega (arith, c .before .before .before .power2 .ensures .0, w .1 .1)))
+    (table-5 (s .args .n) (s .args .n - s .args .g) (runs s) (counted o) (w .0) (w .1 .0)
+    (omega (arith, c .before .before .before .power2 .ensures .0, w .1 .1)))
     (c .refused3 .result) (c .refused3 .ensures)
 
 table-columns-requires : tie.Need-table-columns-requires
@@ -136,7 +144,7 @@ distinct-nonzero-requires : tie.Need-distinct-nonzero-requires
 distinct-nonzero-requires c κs =
     let v = c .before in
     let s = start-4 v in
-    let z = sized (v .before .before .before .before .before .before .before .before) in
+    let z = sized (counted-3 (low-4 v) .before .before) in
     let a = v .before .before .table-columns .result .columns in
     (z .most, below-128 (s .args .n) (s .args .n - s .args .g) a (z .few) (standard-below (s .args .n) (s .args .n - s .args .g) a (standard v .form)))
 
@@ -153,7 +161,8 @@ returns-5 c =
     plan-refused (s .args .n) (s .args .g) (fault s) (runsOf (runs s)) (from s) (most s) 7 (omega arith) (sized (o .before .before))
     (table-7 (s .args .n) (s .args .n - s .args .g) (runs s) (counted o) (low u) (d .ensures .possible (not-false _ (v .if4 .left)))
     (short-switched (s .args .n) (getD (runs s) 0 0) (runsOf (runs s)) 3
-    (repeat-short (s .args .n) (s .args .n - s .args .g) (plan s) (d .result .columns) (standard v) (c .before .before .distinct-nonzero .ensures .1 (not-true _ (c .before .if5 .taken))))))
+    (repeat-short (s .args .n) (s .args .n - s .args .g) (plan s) (d .result .columns) (standard v)
+    (c .before .before .distinct-nonzero .ensures .1 (not-true _ (c .before .if5 .taken))))))
     (c .refused5 .result) (c .refused5 .ensures)
 
 -- the table has a first run
@@ -161,7 +170,7 @@ some : (c : tie.Else2) → 0 < length (runs (start-2 c))
 some c = let s = start-2 c in omega (arith, counted c, pow-pos (s .args .n - s .args .g))
 
 shared-slice-read-run : tie.Need-shared-slice-read-run
-shared-slice-read-run c = some (c .before .before .before .before .before .before .before .before .before .before)
+shared-slice-read-run c = some (counted-3 (low-4 (c .before .before .before .before)))
 
 returns-6 : tie.Need-returns-6
 returns-6 c =
@@ -173,7 +182,8 @@ returns-6 c =
     let pl = c .before .before .distinct-nonzero .ensures .0 (not-false _ (c .before .if5 .left)) in
     accepted (s .args .n) (s .args .g) (fault s) (runsOf (runs s)) (from s) (most s) (getD (runs s) 0 0) (d .result .columns) (sized (o .before .before))
     (table-0 (s .args .n) (s .args .n - s .args .g) (runs s) (counted o) (low u) (d .ensures .possible (not-false _ (v .if4 .left)))
-    (no-short-switched (s .args .n) (getD (runs s) 0 0) (runsOf (runs s)) 3 (distinct-long (s .args .n) (s .args .n - s .args .g) (plan s) (d .result .columns) (standard v) pl)))
+    (no-short-switched (s .args .n) (getD (runs s) 0 0) (runsOf (runs s)) 3
+    (distinct-long (s .args .n) (s .args .n - s .args .g) (plan s) (d .result .columns) (standard v) pl)))
     (λ x e. e) (low u (getD (runs s) 0 0) (place-in (runs s) 0 (some o))) (standard v) pl (d .ensures .unused)
 
 pub admit-runs-spec : {M : Type 1} → statement M

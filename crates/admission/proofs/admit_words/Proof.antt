@@ -73,7 +73,8 @@ returns c =
     let s = c .before .before .before .before in
     let a = s .args in
     let q = c .before .before .size-number in
-    size-refused (a .n) (a .g) (fault s) (plan s) (from s) (most s) (q .result) (c .refused .result) (c .refused .ensures) (c .before .if1 .taken) (words-least (a .n) (a .g) (words s)) (q .ensures .0)
+    size-refused (a .n) (a .g) (fault s) (plan s) (from s) (most s) (q .result) (c .refused .result) (c .refused .ensures) (c .before .if1 .taken)
+    (words-least (a .n) (a .g) (words s)) (q .ensures .0)
 
 refused-requires-2 : tie.Need-refused-requires-2
 refused-requires-2 c κs = search needs
@@ -82,7 +83,8 @@ returns-2 : tie.Need-returns-2
 returns-2 c =
     let o = c .before .before in
     let s = start o in
-    plan-refused (s .args .n) (s .args .g) (fault s) (plan s) (from s) (most s) 4 (omega arith) (sized o) (words-4 (s .args .n) (s .args .g) (words s) (c .before .if2 .taken))
+    plan-refused (s .args .n) (s .args .g) (fault s) (plan s) (from s) (most s) 4 (omega arith) (sized o)
+    (words-4 (s .args .n) (s .args .g) (words s) (c .before .if2 .taken))
     (c .refused2 .result) (c .refused2 .ensures)
 
 power-requires : tie.Need-power-requires
@@ -100,7 +102,8 @@ returns-3 c =
     let s = start o in
     let w = c .before .before .letters-below .ensures .1 (not-true _ (c .before .if3 .taken)) in
     plan-refused (s .args .n) (s .args .g) (fault s) (plan s) (from s) (most s) 5 (omega arith) (sized o)
-    (words-5 (s .args .n) (s .args .g) (words s) (c .before .before .before .before .if2 .left) (w .0) (w .1 .0) (omega (arith, c .before .before .before .power .ensures .0, w .1 .1)))
+    (words-5 (s .args .n) (s .args .g) (words s) (c .before .before .before .before .if2 .left) (w .0) (w .1 .0)
+    (omega (arith, c .before .before .before .power .ensures .0, w .1 .1)))
     (c .refused3 .result) (c .refused3 .ensures)
 
 words-columns-requires : tie.Need-words-columns-requires
@@ -141,7 +144,8 @@ returns-5 c =
     let x = not-false _ (v .if4 .left) in
     plan-refused (s .args .n) (s .args .g) (fault s) (plan s) (from s) (most s) 7 (omega arith) (sized (u .before .before .before .before))
     (words-7 (s .args .n) (s .args .g) (words s) (u .before .before .before .if2 .left) (low u) (found d .possible x)
-    (repeat-short (s .args .n) (s .args .n - s .args .g) (plan s) (d .words-columns .result .columns) (found d .standard x) (c .before .before .distinct-nonzero .ensures .1 (not-true _ (c .before .if5 .taken)))))
+    (repeat-short (s .args .n) (s .args .n - s .args .g) (plan s) (d .words-columns .result .columns) (found d .standard x)
+    (c .before .before .distinct-nonzero .ensures .1 (not-true _ (c .before .if5 .taken)))))
     (c .refused5 .result) (c .refused5 .ensures)
 
 returns-6 : tie.Need-returns-6

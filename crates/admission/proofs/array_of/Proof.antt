@@ -44,7 +44,8 @@ returns c =
     let l = c .before .loop in
     λ f. by-cases (decLt f (l .f))
     (λ h. l .inv .1 .done f h)
-    (λ h. fill-unused (λ g. getD (a .list .now) g 0) 16 (l .f) (l .columns) (l .inv .1) f (omega arith) ∙ sym (List·getD-eq-default (a .list .now) 0 (omega arith)))
+    (λ h. fill-unused (λ g. getD (a .list .now) g 0) 16 (l .f) (l .columns) (l .inv .1) f (omega arith)
+    ∙ sym (List·getD-eq-default (a .list .now) 0 (omega arith)))
 
 pub array-of-spec : {M : Type 1} → statement M
 array-of-spec =

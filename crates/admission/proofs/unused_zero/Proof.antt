@@ -26,7 +26,8 @@ returns : tie.Need-returns Inv-loop μ-loop
 returns c =
     let a = c .before .before .before .args in
     let l = c .before .before .loop in
-    tells-no ((f : ℕ) → a .n ≤ f → f < 16 → getD (a .t2) f 0 ≡ 0) ((f : ℕ) × ((a .n ≤ f) × ((f < 16) × (getD (a .t2) f 0 ≡ 0 → ⊥)))) (l .f, (l .inv .0, (omega arith, c .if1 .taken)))
+    tells-no ((f : ℕ) → a .n ≤ f → f < 16 → getD (a .t2) f 0 ≡ 0) ((f : ℕ) × ((a .n ≤ f) × ((f < 16) × (getD (a .t2) f 0 ≡ 0 → ⊥))))
+    (l .f, (l .inv .0, (omega arith, c .if1 .taken)))
 
 add-f : tie.Need-add-f Inv-loop μ-loop
 add-f c = search needs
@@ -44,7 +45,8 @@ returns-2 : tie.Need-returns-2 Inv-loop μ-loop
 returns-2 c =
     let a = c .before .before .args in
     let l = c .before .loop in
-    tells-yes ((f : ℕ) → a .n ≤ f → f < 16 → getD (a .t2) f 0 ≡ 0) ((f : ℕ) × ((a .n ≤ f) × ((f < 16) × (getD (a .t2) f 0 ≡ 0 → ⊥)))) (λ f p q. l .inv .1 f p (omega arith))
+    tells-yes ((f : ℕ) → a .n ≤ f → f < 16 → getD (a .t2) f 0 ≡ 0) ((f : ℕ) × ((a .n ≤ f) × ((f < 16) × (getD (a .t2) f 0 ≡ 0 → ⊥))))
+    (λ f p q. l .inv .1 f p (omega arith))
 
 pub unused-zero-spec : {M : Type 1} → statement M
 unused-zero-spec =

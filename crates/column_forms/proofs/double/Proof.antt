@@ -47,7 +47,11 @@ element-write-places c =
     let k = at .loop .k in
     let l : k < s .args .half = omega arith in
     let p = s .pre .4 k l in
-    omega (arith, xor-lt 7 (getD (at .loop .sums) k 0) (s .args .c) (omega (arith, at .loop .inv .3 .doubling .low k l)) (omega arith), c .as-index .ensures .0)
+    omega (
+      arith,
+      xor-lt 7 (getD (at .loop .sums) k 0) (s .args .c) (omega (arith, at .loop .inv .3 .doubling .low k l)) (omega arith),
+      c .as-index .ensures .0,
+    )
 
 add-k : tie.Need-add-k Inv-loop μ-loop
 add-k c = search needs

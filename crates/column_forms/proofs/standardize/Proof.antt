@@ -12,7 +12,8 @@ use Rattle.column_forms.proofs.standardize.Statement.{statement}
 use Rattle.column_forms.proofs.standardize.Tie as tie
 
 abbrev Inv-loop : tie.InvT-loop
-Inv-loop n m cols columns₀ sums₀ places₀ half₀ f₀ columns sums places half f = (f ≤ n) × (length columns ≡ 16) × (length sums ≡ 128) × (length places ≡ 128) × Walk n m cols f half sums places columns
+Inv-loop n m cols columns₀ sums₀ places₀ half₀ f₀ columns sums places half f =
+    (f ≤ n) × (length columns ≡ 16) × (length sums ≡ 128) × (length places ≡ 128) × Walk n m cols f half sums places columns
 
 abbrev μ-loop : tie.MeasureT-loop
 μ-loop n m cols columns₀ sums₀ places₀ half₀ f₀ columns sums places half f = n - f
@@ -59,7 +60,13 @@ loop-again c =
 cast-columns : tie.Need-cast-columns Inv-loop μ-loop
 cast-columns c =
     let at = c .before .before .before in
-    record { fits = omega (arith, walk-room _ _ _ _ _ _ _ _ (at .loop .inv .4) (omega arith) (at .before .pre .2) (omega arith) _ (c .before .as-index .ensures .0) (c .if1 .left) (omega arith)) }
+    record {
+      fits = omega (
+        arith,
+        walk-room _ _ _ _ _ _ _ _ (at .loop .inv .4) (omega arith) (at .before .pre .2) (omega arith) _
+            (c .before .as-index .ensures .0) (c .if1 .left) (omega arith),
+      );
+    }
 
 array-write-columns-2 : tie.Need-array-write-columns-2 Inv-loop μ-loop
 array-write-columns-2 c = search needs
@@ -82,7 +89,12 @@ add-half c =
     let o = c .before .before .before in
     let at = o .before .before .before in
     let i = at .loop .inv in
-    record { fits = omega (arith, walk-room _ _ _ _ _ _ _ _ (i .4) (omega arith) (at .before .pre .2) (omega arith) _ (o .before .as-index .ensures .0) (o .if1 .left) (omega arith)) }
+    record {
+      fits = omega (
+        arith,
+        walk-room _ _ _ _ _ _ _ _ (i .4) (omega arith) (at .before .pre .2) (omega arith) _ (o .before .as-index .ensures .0) (o .if1 .left) (omega arith),
+      );
+    }
 
 add-f-2 : tie.Need-add-f-2 Inv-loop μ-loop
 add-f-2 c = search needs
@@ -109,7 +121,8 @@ shl-if2 c = search needs
 returns : tie.Need-returns Inv-loop μ-loop
 returns c =
     let at = c .before .before in
-    walk-short _ _ _ _ _ _ _ _ (at .before .pre .2) (omega arith) (at .loop .inv .4) (λ e. c .if2 .taken (e ∙ sym (full (at .before .args .m) (at .before .pre .1))))
+    walk-short _ _ _ _ _ _ _ _ (at .before .pre .2) (omega arith) (at .loop .inv .4)
+    (λ e. c .if2 .taken (e ∙ sym (full (at .before .args .m) (at .before .pre .1))))
 
 returns-2 : tie.Need-returns-2 Inv-loop μ-loop
 returns-2 c =

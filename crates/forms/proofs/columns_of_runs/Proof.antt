@@ -8,6 +8,10 @@ use Rattle.forms.specs.Made.{columns-fills}
 use Rattle.regular.specs.Runs.{switched, runsOf}
 use lib.ListN.{getD}
 
+-- from the admitted plan back to the start
+abbrev start : tie.After-admit-runs → tie.Start
+start c = c .before .before .before
+
 admit-runs-requires : tie.Need-admit-runs-requires
 admit-runs-requires c κs = search needs
 
@@ -19,10 +23,12 @@ same-length c = search needs
 
 returns : tie.Need-returns
 returns c =
-    let a = c .before .before .before .before .before .before .before .args in
-    let q = c .before .before .before .before .admit-runs in
+    let o = c .before .before .before .before in
+    let a = start o .args in
+    let q = o .admit-runs in
     let l = c .before .before .lend-columns in
-    columns-fills (q .ensures) (switched (getD (a .runs .now) 0 0) (runsOf (a .runs .now))) (standard-from (q .ensures) (getD (a .runs .now) 0 0) refl) (a .out .now) (l .last .1 .1 .0) (l .result) (l .ensures)
+    columns-fills (q .ensures) (switched (getD (a .runs .now) 0 0) (runsOf (a .runs .now))) (standard-from (q .ensures) (getD (a .runs .now) 0 0) refl)
+    (a .out .now) (l .last .1 .1 .0) (l .result) (l .ensures)
 
 pub columns-of-runs-spec : {M : Type 1} → statement M
 columns-of-runs-spec =

@@ -19,7 +19,8 @@ returns c =
     let a = c .before .before .before .args in
     let q = c .before .admit-runs in
     let l = c .design-of in
-    design-gives (q .ensures) (switched (getD (a .runs .now) 0 0) (runsOf (a .runs .now))) (standard-from (q .ensures) (getD (a .runs .now) 0 0) refl) (l .result .number) (l .result .design) (l .ensures)
+    design-gives (q .ensures) (switched (getD (a .runs .now) 0 0) (runsOf (a .runs .now))) (standard-from (q .ensures) (getD (a .runs .now) 0 0) refl)
+    (l .result .number) (l .result .design) (l .ensures)
 
 pub design-of-runs-spec : {M : Type 1} → statement M
 design-of-runs-spec = tie.close (tie.spec admit-runs-requires design-of-requires returns)

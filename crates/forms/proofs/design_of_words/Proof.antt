@@ -18,7 +18,8 @@ returns c =
     let a = c .before .before .before .args in
     let q = c .before .admit-words in
     let l = c .design-of in
-    design-gives (q .ensures) (Generated (a .n) (a .g) (a .words .now)) (standard-from-high (q .ensures) refl) (l .result .number) (l .result .design) (l .ensures)
+    design-gives (q .ensures) (Generated (a .n) (a .g) (a .words .now)) (standard-from-high (q .ensures) refl) (l .result .number)
+    (l .result .design) (l .ensures)
 
 pub design-of-words-spec : {M : Type 1} → statement M
 design-of-words-spec = tie.close (tie.spec admit-words-requires design-of-requires returns)

@@ -6,10 +6,27 @@ use Rattle.forms.proofs.lend_runs.Statement.{statement}
 use Rattle.forms.proofs.lend_runs.Tie as tie
 use Rattle.lent.specs.Lends.{lends-refused, Lends, lends-means, lends-part}
 use lib.Pow.{pow-mono}
-use Prim.Native.Nat.{_-_, _^_, ℕ, _<_}
+use Prim.Native.Nat.{_-_, _^_, ℕ, _<_, _≤_}
 use Rattle.regular.specs.Columns.{Listed}
-use lib.ListN.{getD}
+use Rattle.regular.specs.Sizes.{Size}
+use lib.ListN.{getD, length}
 use lib.Seq.{length-take-le}
+
+-- from where nothing is refused back to the start, and from the number of runs back to it
+abbrev start : tie.Else1 → tie.Start
+start c = c .before .before
+
+abbrev made : tie.After-power → tie.Else1
+made c = c .before .before
+
+-- nothing is refused, so the sizes are in bounds; the table has the runs
+sized : (c : tie.Else1) → Size (start c .args .n) (start c .args .g)
+sized c = start c .pre (c .if1 .left)
+
+fits : (c : tie.After-power) → c .power .result ≤ length (c .before .run-table .result)
+fits c =
+    let a = start (made c) .args in
+    omega (arith, c .before .run-table .ensures .places, c .power .ensures .0, pow-mono {i = a .n - a .g} {j = 7} (sized (made c) .few))
 
 returns : tie.Need-returns
 returns c =
@@ -18,46 +35,19 @@ returns c =
     lends-refused (a .number) (2 ^ (a .n - a .g)) (Listed (a .n) (a .n - a .g) (a .columns)) (a .out .now) t
 
 sub-m : tie.Need-sub-m
-sub-m c =
-    let a = c .before .before .args in
-    let p = c .before .before .pre in
-    let t = c .if1 .left in
-    let z = p t in
-    omega (arith, z .less)
+sub-m c = omega (arith, sized c .less)
 
 run-table-requires : tie.Need-run-table-requires
-run-table-requires c κs =
-    let a = c .before .before .args in
-    let p = c .before .before .pre in
-    let t = c .if1 .left in
-    let z = p t in
-    (z .most, z .few)
+run-table-requires c κs = (sized c .most, sized c .few)
 
 power-requires : tie.Need-power-requires
-power-requires c κs =
-    let a = c .before .before .before .args in
-    let p = c .before .before .before .pre in
-    let t = c .before .if1 .left in
-    let z = p t in
-    omega (arith, z .few)
+power-requires c κs = omega (arith, sized (c .before) .few)
 
 array-share-prefix-runs : tie.Need-array-share-prefix-runs
-array-share-prefix-runs c =
-    let a = c .before .before .before .before .args in
-    let p = c .before .before .before .before .pre in
-    let t = c .before .before .if1 .left in
-    let w = c .before .run-table in
-    let q = c .power in
-    omega (arith, w .ensures .places, q .ensures .0, pow-mono {i = a .n - a .g} {j = 7} (p t .few))
+array-share-prefix-runs c = omega (arith, fits c, c .before .run-table .ensures .places)
 
 slice-aggregate-lend-numbers : tie.Need-slice-aggregate-lend-numbers
-slice-aggregate-lend-numbers c =
-    let a = c .before .before .before .before .before .args in
-    let p = c .before .before .before .before .before .pre in
-    let t = c .before .before .before .if1 .left in
-    let w = c .before .before .run-table in
-    let q = c .before .power in
-    sym (length-take-le (q .result) (w .result) (omega (arith, w .ensures .places, q .ensures .0, pow-mono {i = a .n - a .g} {j = 7} (p t .few))))
+slice-aggregate-lend-numbers c = let q = c .before in sym (length-take-le (q .power .result) (q .before .run-table .result) (fits q))
 
 lend-numbers-requires : tie.Need-lend-numbers-requires
 lend-numbers-requires c κs = search needs
@@ -67,21 +57,19 @@ same-length c = search needs
 
 returns-2 : tie.Need-returns-2
 returns-2 c =
-    let a = c .before .before .before .before .before .before .before .before .before .args in
-    let p = c .before .before .before .before .before .before .before .before .before .pre in
-    let t = c .before .before .before .before .before .before .before .if1 .left in
-    let w = c .before .before .before .before .before .before .run-table in
-    let q = c .before .before .before .before .before .power in
+    let u = c .before .before .before .before .before in
+    let a = start (made u) .args in
+    let w = u .before .run-table in
+    let q = u .power in
     let l = c .before .before .lend-numbers in
     let m = a .n - a .g in
     let o = a .out .now in
     let x = l .last .1 .0 in
-    let e = q .ensures .0 in
-    subst (λ (k : ℕ). Lends k (2 ^ m) (Listed (a .n) m (a .columns)) o x (l .result)) (sym t)
-    (subst (λ (k : ℕ). Lends 0 k (Listed (a .n) m (a .columns)) o x (l .result)) e
+    subst (λ (k : ℕ). Lends k (2 ^ m) (Listed (a .n) m (a .columns)) o x (l .result)) (sym (made u .if1 .left))
+    (subst (λ (k : ℕ). Lends 0 k (Listed (a .n) m (a .columns)) o x (l .result)) (q .ensures .0)
     (lends-means 0 (q .result) (λ zs. (i : ℕ) → i < q .result → getD zs i 0 ≡ getD (w .result) i 0) (Listed (a .n) m (a .columns)) o x (l .result)
-    (λ _ h j r. h j (omega arith) ∙ w .ensures .run j r)
-    (lends-part (q .result) (w .result) o x (l .result) (sym (length-take-le (q .result) (w .result) (omega (arith, w .ensures .places, q .ensures .0, pow-mono {i = a .n - a .g} {j = 7} (p t .few))))) (l .ensures))))
+    (λ _ h j r. h j (omega (arith, q .ensures .0)) ∙ w .ensures .run j r)
+    (lends-part (q .result) (w .result) o x (l .result) (sym (length-take-le (q .result) (w .result) (fits u))) (l .ensures))))
 
 pub lend-runs-spec : {M : Type 1} → statement M
 lend-runs-spec =

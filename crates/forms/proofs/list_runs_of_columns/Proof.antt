@@ -10,12 +10,16 @@ use Rattle.regular.specs.Columns.{Listed}
 use Prim.Native.Nat.{_-_, _^_}
 use Rattle.lent.specs.Lends.{lends-refused}
 
+-- from the admitted plan back to the start
+abbrev start : tie.After-admit-columns → tie.Start
+start c = c .before .before .before
+
 admit-columns-requires : tie.Need-admit-columns-requires
 admit-columns-requires c κs = search needs
 
 returns : tie.Need-returns
 returns c =
-    let a = c .before .before .before .before .args in
+    let a = start (c .before) .args in
     let q = c .before .admit-columns in
     let t = c .if1 .taken in
     given-fills (q .ensures) (a .columns .now) (a .columns .now) (a .out .now) (a .out .now) (q .result .number) (λ f. refl)
@@ -23,7 +27,7 @@ returns c =
 
 array-of-requires : tie.Need-array-of-requires
 array-of-requires c κs =
-    let a = c .before .before .before .before .args in
+    let a = start (c .before) .args in
     let q = c .before .admit-columns in
     let t = c .if1 .left in
     omega (arith, columns-count (a .n) (a .g) (a .columns .now) (q .result .number) t (q .ensures .lowest), q .ensures .size t .most)
@@ -36,8 +40,9 @@ same-length c = search needs
 
 returns-2 : tie.Need-returns-2
 returns-2 c =
-    let a = c .before .before .before .before .before .before .before .before .before .args in
-    let q = c .before .before .before .before .before .before .admit-columns in
+    let u = c .before .before .before .before .before .before in
+    let a = start u .args in
+    let q = u .admit-columns in
     let o = c .before .before .before .before .array-of in
     let l = c .before .before .lend-runs in
     given-fills (q .ensures) (o .result) (a .columns .now) (a .out .now) (l .last .1 .1 .1 .1 .0) (l .result) (o .ensures) (l .ensures)

@@ -44,7 +44,8 @@ loop-again c =
       omega arith,
       l .inv .1,
       length-set (l .out) (a .at + l .f) x ∙ l .inv .2,
-      ap (λ (zs : List ℕ). set zs (a .at + l .f) x) (l .inv .3) ∙ paste-suc (a .out .now) (a .at) (a .t2) (l .f) 0 (omega (arith, s .pre .1, t)) (omega (arith, s .pre .0, l .inv .1, t))
+      ap (λ (zs : List ℕ). set zs (a .at + l .f) x) (l .inv .3)
+          ∙ paste-suc (a .out .now) (a .at) (a .t2) (l .f) 0 (omega (arith, s .pre .1, t)) (omega (arith, s .pre .0, l .inv .1, t))
           ∙ ap (paste (a .out .now) (a .at) (a .t2)) (sym (add-one (l .f))),
     )
 

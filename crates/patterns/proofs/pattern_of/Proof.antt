@@ -28,7 +28,8 @@ returns c =
     let counted = c .before in
     let made = counted .before .before in
     let s = made .before in
-    pattern-model _ (s .args .g) _ _ _ _ _ (s .pre .0) (end-is (s .args .g) (s .pre .1)) (made .products .ensures) (counted .letter-counts .ensures) (c .from-one .ensures)
+    pattern-model _ (s .args .g) _ _ _ _ _ (s .pre .0) (end-is (s .args .g) (s .pre .1)) (made .products .ensures)
+    (counted .letter-counts .ensures) (c .from-one .ensures)
 
 pub pattern-of-spec : {M : Type 1} → statement M
 pattern-of-spec =

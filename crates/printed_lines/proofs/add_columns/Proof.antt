@@ -10,10 +10,18 @@ use Rattle.printed_lines.proofs.add_columns.Statement.{statement}
 use Rattle.printed_lines.proofs.add_columns.Tie as tie
 
 abbrev Inv-loop : tie.InvT-loop
-Inv-loop n at out₀ columns f₀ end₀ out f end = (n ≤ 16) × (f ≤ n) × (end ≤ at + 4 * f) × (at + 4 * n + 17 ≤ length out₀) × (16 ≡ length columns) × Adds out₀ out at (columnsText f columns) end
+Inv-loop n at out₀ columns f₀ end₀ out f end =
+    (n ≤ 16) × (f ≤ n) × (end ≤ at + 4 * f) × (at + 4 * n + 17 ≤ length out₀) × (16 ≡ length columns) × Adds out₀ out at (columnsText f columns) end
 
 abbrev μ-loop : tie.MeasureT-loop
 μ-loop n at out₀ columns f₀ end₀ out f end = n - f
+
+-- a turn of the loop, and the start
+abbrev start : tie.At-loop Inv-loop μ-loop → tie.Start Inv-loop μ-loop
+start c = c .before .before
+
+abbrev turn : tie.After-add-next Inv-loop μ-loop → tie.At-loop Inv-loop μ-loop
+turn c = c .before .before .before .before
 
 loop-holds : tie.Need-loop-holds Inv-loop μ-loop
 loop-holds c = (c .before .pre .0, omega arith, omega arith, c .before .pre .1, search needs, columns-none _ _ (c .before .args .t2))
@@ -37,21 +45,30 @@ loop-less c = search needs
 
 loop-again : tie.Need-loop-again Inv-loop μ-loop
 loop-again c =
-    let a = c .before .before .before .before .before .before .before .before .args in
-    let l = c .before .before .before .before .before .before .loop in
+    let o = c .before .before in
+    let d = turn o in
+    let a = start d .args in
+    let l = d .loop in
     let t = c .before .before .before .before .before .loop-test .taken in
     let w = c .before .before .before .before .as-index in
-    let h = c .before .before .add-next .ensures in
-    (l .inv .0, omega (arith, t), omega (arith, h .0 .place, next-short 2 (w .result) (omega (arith, w .ensures)), l .inv), l .inv .3, l .inv .4, column-turn (a .t2) (l .f) (l .inv .5) (adds-is (ap (λ (x : ℕ). next x) (w .ensures .0)) (h .0)))
+    let h = o .add-next .ensures in (
+      l .inv .0,
+      omega (arith, t),
+      omega (arith, h .0 .place, next-short 2 (w .result) (omega (arith, w .ensures)), l .inv),
+      l .inv .3,
+      l .inv .4,
+      column-turn (a .t2) (l .f) (l .inv .5) (adds-is (ap (λ (x : ℕ). next x) (w .ensures .0)) (h .0)),
+    )
 
 same-length : tie.Need-same-length Inv-loop μ-loop
 same-length c = search needs
 
 returns : tie.Need-returns Inv-loop μ-loop
 returns c =
+    let s = start (c .before) in
     let l = c .before .loop in
-    let e : l .f ≡ c .before .before .before .args .n = omega (arith, l .inv, c .loop-test .left) in
-    (adds-is (ap (λ (k : ℕ). columnsText k (c .before .before .before .args .t2)) e) (l .inv .5), omega (arith, l .inv))
+    let e : l .f ≡ s .args .n = omega (arith, l .inv, c .loop-test .left) in
+    (adds-is (ap (λ (k : ℕ). columnsText k (s .args .t2)) e) (l .inv .5), omega (arith, l .inv))
 
 pub add-columns-spec : {M : Type 1} → statement M
 add-columns-spec =

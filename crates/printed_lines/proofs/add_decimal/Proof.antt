@@ -6,6 +6,10 @@ use borrow.Author.Needs.{needs}
 use Rattle.printed_lines.proofs.add_decimal.Statement.{statement}
 use Rattle.printed_lines.proofs.add_decimal.Tie as tie
 
+-- from the digits back to the start
+abbrev start : tie.After-decimal → tie.Start
+start c = c .before .before .before
+
 decimal-requires : tie.Need-decimal-requires
 decimal-requires c κs = search needs
 
@@ -17,8 +21,9 @@ slice-aggregate-add-text c = search needs
 
 add-text-requires : tie.Need-add-text-requires
 add-text-requires c κs =
-    let a = c .before .before .before .before .before in
-    let d = c .before .before .decimal .ensures in
+    let o = c .before .before in
+    let a = start o in
+    let d = o .decimal .ensures in
     omega (arith, a .pre, d .0 .1, few-digits (a .args .x) _ (a .fits .x .fits) (d .1 .0))
 
 same-length : tie.Need-same-length
@@ -26,8 +31,9 @@ same-length c = search needs
 
 returns : tie.Need-returns
 returns c =
-    let a = c .before .before .before .before .before .before .before .before in
-    let d = c .before .before .before .before .before .decimal .ensures in
+    let o = c .before .before .before .before .before in
+    let a = start o in
+    let d = o .decimal .ensures in
     let t = c .before .before .add-text .ensures in
     let few = few-digits (a .args .x) _ (a .fits .x .fits) (d .1 .0) in
     (adds-is (d .1 .1 ∙ digits-are 20 _ _ (d .1 .0) few) t, omega (arith, t .place, d .0 .1, few))

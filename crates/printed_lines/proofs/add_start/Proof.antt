@@ -43,7 +43,17 @@ returns c =
     let t5 = p5 .add-columns .ensures in
     let a = p1 .before .before .before in (
       adds-more (adds-more (adds-more (adds-more (t1 .0) t2) (t3 .0)) t4) (t5 .0),
-      omega (arith, t1 .0 .place, decimal-short 3 (a .args .place) (omega (arith, a .pre)), t2 .place, t3 .0 .place, next-short 2 (a .args .resolution) (omega (arith, a .fits .resolution .fits)), t4 .place, t5 .1, a .pre),
+      omega (
+        arith,
+        t1 .0 .place,
+        decimal-short 3 (a .args .place) (omega (arith, a .pre)),
+        t2 .place,
+        t3 .0 .place,
+        next-short 2 (a .args .resolution) (omega (arith, a .fits .resolution .fits)),
+        t4 .place,
+        t5 .1,
+        a .pre,
+      ),
     )
 
 pub add-start-spec : {M : Type 1} → statement M

@@ -4,6 +4,10 @@ use borrow.Author.Needs.{needs}
 use Rattle.printed_lines.proofs.entry_line.Statement.{statement}
 use Rattle.printed_lines.proofs.entry_line.Tie as tie
 
+-- from the pattern back to the start
+abbrev start : tie.After-pattern-of-design → tie.Start
+start c = c .before .before .before .before
+
 resolution-of-design-requires : tie.Need-resolution-of-design-requires
 resolution-of-design-requires c κs = search needs
 
@@ -21,10 +25,11 @@ same-length c = search needs
 
 returns : tie.Need-returns
 returns c =
+    let o = c .before .before .before .before .before .before in
     let e = c .before .before .add-entry .ensures in
-    let p = c .before .before .before .before .before .before .pattern-of-design .ensures in
-    let q = c .before .before .before .before .before .before .before .before .resolution-of-design .ensures in
-    let l = c .before .before .before .before .before .before .before .before .before .before .pre .0 in
+    let p = o .pattern-of-design .ensures in
+    let q = o .before .before .resolution-of-design .ensures in
+    let l = start o .pre .0 in
     (record { resolution = _; pattern = _; is-resolution = listed-gives l q; is-pattern = listed-fills l (l .size .most) p; text = e .0 }, e .1)
 
 pub entry-line-spec : {M : Type 1} → statement M

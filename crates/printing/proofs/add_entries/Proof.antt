@@ -12,11 +12,19 @@ use Rattle.printing.proofs.add_entries.Tie as tie
 
 abbrev Inv-loop : tie.InvT-loop
 Inv-loop n g count at out₀ list place₀ end₀ out place end =
-    (1 ≤ place) × (place ≤ count + 1) × (count ≤ 1024) × (1024 ≡ length list) × AllListable n g count list × (end ≤ 102 + 177 * (place - 1)) × (181365 ≤ length out₀)
+    (1 ≤ place) × (place ≤ count + 1) × (count ≤ 1024) × (1024 ≡ length list) × AllListable n g count list × (end ≤ 102 + 177 * (place - 1))
+    × (181365 ≤ length out₀)
     × EntryLines n g (place - 1) list out₀ out at end
 
 abbrev μ-loop : tie.MeasureT-loop
 μ-loop n g count at out₀ list place₀ end₀ out place end = count + 1 - place
+
+-- a turn of the loop, and the start
+abbrev start : tie.At-loop Inv-loop μ-loop → tie.Start Inv-loop μ-loop
+start c = c .before .before
+
+abbrev turn : tie.After-entry-line Inv-loop μ-loop → tie.At-loop Inv-loop μ-loop
+turn c = c .before .before .before .before
 
 loop-holds : tie.Need-loop-holds Inv-loop μ-loop
 loop-holds c =
@@ -34,10 +42,14 @@ array-copy-out-d c = search needs
 
 entry-line-requires : tie.Need-entry-line-requires Inv-loop μ-loop
 entry-line-requires c κs =
-    let l = c .before .before .before .loop in
+    let o = c .before .before .before in
+    let l = o .loop in
     let t = c .before .before .loop-test .taken in
-    let a = c .before .before .before .before .before .args in
-    (listed-at (a .n) (a .g) (a .count) _ (a .t4) _ (l .inv .4) (omega (arith, t, l .inv)) (omega (arith, t, l .inv)), omega (arith, t, l .inv), omega (arith, t, l .inv, l .inv .7 .text .size))
+    let a = start o .args in (
+      listed-at (a .n) (a .g) (a .count) _ (a .t4) _ (l .inv .4) (omega (arith, t, l .inv)) (omega (arith, t, l .inv)),
+      omega (arith, t, l .inv),
+      omega (arith, t, l .inv, l .inv .7 .text .size),
+    )
 
 add-place : tie.Need-add-place Inv-loop μ-loop
 add-place c = search needs
@@ -47,10 +59,12 @@ loop-less c = search needs
 
 loop-again : tie.Need-loop-again Inv-loop μ-loop
 loop-again c =
-    let e = c .before .before .entry-line .ensures in
-    let l = c .before .before .before .before .before .before .loop in
+    let o = c .before .before in
+    let d = turn o in
+    let e = o .entry-line .ensures in
+    let l = d .loop in
     let t = c .before .before .before .before .before .loop-test .taken in
-    let a = c .before .before .before .before .before .before .before .before .args in (
+    let a = start d .args in (
       omega arith,
       omega (arith, t),
       l .inv .2,

@@ -36,7 +36,8 @@ add-t9 c = search needs
 
 returns-3 : tie.Need-returns-3
 returns-3 c =
-    two-digits _ _ _ _ (c .before .before .before .digit .ensures) (omega (arith, c .before .before .if1 .left)) (c .before .digit2 .ensures) (omega (arith, c .if2 .left))
+    two-digits _ _ _ _ (c .before .before .before .digit .ensures) (omega (arith, c .before .before .if1 .left)) (c .before .digit2 .ensures)
+    (omega (arith, c .if2 .left))
 
 pub number-spec : {M : Type 1} → statement M
 number-spec =

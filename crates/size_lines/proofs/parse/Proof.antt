@@ -1,10 +1,18 @@
--- In a line that gives a size each number ends at a space or at the line's end, so it is the one the reader finds; where the reader stops there is no size. Assumes nothing.
+-- In a line that gives a size each number ends at a space or at the line's end, so it is the one the reader finds; where the reader stops there is no size.
+-- Assumes nothing.
 use native.Mathlib.Omega.{arith}
 use Rattle.size_lines.proofs.Laws.{refuse, no-1, no-2, no-3, no-4, no-5, no-6, gives}
 use borrow.Author.Tests.{not-true, not-false}
 use borrow.Author.Needs.{needs}
 use Rattle.size_lines.proofs.parse.Statement.{statement}
 use Rattle.size_lines.proofs.parse.Tie as tie
+
+-- from each number back to the one before it
+abbrev first : tie.After-number2 → tie.After-number
+first c = c .before .before .before .before
+
+abbrev second : tie.After-number3 → tie.After-number2
+second c = c .before .before .before .before
 
 number-requires : tie.Need-number-requires
 number-requires c κs = search needs
@@ -42,8 +50,9 @@ none-requires-3 c κs = search needs
 
 returns-3 : tie.Need-returns-3
 returns-3 c =
+    let o = c .before .before in
     refuse _ _ (c .none3 .ensures)
-    (no-3 _ _ _ _ _ (c .before .before .before .before .before .before .number .ensures) (c .before .before .number2 .ensures) (c .before .if3 .taken))
+    (no-3 _ _ _ _ _ (first o .number .ensures) (o .number2 .ensures) (c .before .if3 .taken))
 
 space-requires-2 : tie.Need-space-requires-2
 space-requires-2 c κs = search needs
@@ -53,8 +62,9 @@ none-requires-4 c κs = search needs
 
 returns-4 : tie.Need-returns-4
 returns-4 c =
+    let o = c .before .before .before .before in
     refuse _ _ (c .none4 .ensures)
-    (no-4 _ _ _ _ _ (c .before .before .before .before .before .before .before .before .number .ensures) (c .before .before .before .before .number2 .ensures) (c .before .before .space2 .ensures) (not-true _ (c .before .if4 .taken)))
+    (no-4 _ _ _ _ _ (first o .number .ensures) (o .number2 .ensures) (c .before .before .space2 .ensures) (not-true _ (c .before .if4 .taken)))
 
 add-number-2 : tie.Need-add-number-2
 add-number-2 c = search needs
@@ -70,26 +80,31 @@ none-requires-5 c κs = search needs
 
 returns-5 : tie.Need-returns-5
 returns-5 c =
+    let o = c .before .before in
+    let s = second o in
     refuse _ _ (c .none5 .ensures)
-    (no-5 _ _ _ _ _ _ _ (c .before .before .before .before .before .before .before .before .before .before .number .ensures) (c .before .before .before .before .before .before .number2 .ensures) (c .before .before .number3 .ensures) (c .before .if5 .taken))
+    (no-5 _ _ _ _ _ _ _ (first s .number .ensures) (s .number2 .ensures) (o .number3 .ensures) (c .before .if5 .taken))
 
 none-requires-6 : tie.Need-none-requires-6
 none-requires-6 c κs = search needs
 
 returns-6 : tie.Need-returns-6
 returns-6 c =
+    let o = c .before .before .before in
+    let s = second o in
     refuse _ _ (c .none6 .ensures)
-    (no-6 _ _ _ _ _ _ _ (c .before .before .before .before .before .before .before .before .before .before .before .number .ensures) (c .before .before .before .before .before .before .before .number2 .ensures) (c .before .before .before .number3 .ensures) (c .before .if6 .taken))
+    (no-6 _ _ _ _ _ _ _ (first s .number .ensures) (s .number2 .ensures) (o .number3 .ensures) (c .before .if6 .taken))
 
 returns-7 : tie.Need-returns-7
 returns-7 c =
-    let p = (c .before .before .before .before .before .before .before .before .before .before .number .ensures) in
-    let q = (c .before .before .before .before .before .before .number2 .ensures) in
-    let t = (c .before .before .number3 .ensures) in
-    gives _ _ _ _ _ _ _ p q t
-    (omega (arith, c .before .before .before .before .before .before .before .before .before .if1 .left)) (omega (arith, c .before .before .before .before .before .if3 .left, q .low)) (omega (arith, c .before .if5 .left, t .low))
-    ((c .before .before .before .before .before .before .before .before .space .ensures) .some (not-false _ (c .before .before .before .before .before .before .before .if2 .left))) ((c .before .before .before .before .space2 .ensures) .some (not-false _ (c .before .before .before .if4 .left)))
-    (c .if6 .left)
+    let o = c .before .before in
+    let s = second o in
+    let p = first s .number .ensures in
+    let q = s .number2 .ensures in
+    let t = o .number3 .ensures in
+    gives _ _ _ _ _ _ _ p q t (omega (arith, s .before .before .before .if1 .left)) (omega (arith, o .before .before .before .if3 .left, q .low))
+    (omega (arith, c .before .if5 .left, t .low)) (s .before .before .space .ensures .some (not-false _ (s .before .if2 .left)))
+    (o .before .before .space2 .ensures .some (not-false _ (o .before .if4 .left))) (c .if6 .left)
 
 pub parse-spec : {M : Type 1} → statement M
 parse-spec =

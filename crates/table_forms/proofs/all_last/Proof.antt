@@ -1,4 +1,5 @@
--- `table_forms::all_last` meets its contract. The invariant: every run passed is the last with its levels. The measure is what is left of the runs. Assumes nothing.
+-- `table_forms::all_last` meets its contract. The invariant: every run passed is the last with its levels. The measure is what is left of the runs.
+-- Assumes nothing.
 use mathlib.Core.Path.{_≡_, ap}
 use mathlib.Core.Bool.{true≢false, false≢true}
 use Prim.Native.Nat.{ℕ, _-_, _<_, _≤_}

@@ -18,6 +18,16 @@ Inv-loop t coords place basics f k₀ half₀ i₀ k half i = (i ≤ basics) × 
 abbrev μ-loop : tie.MeasureT-loop
 μ-loop t coords place basics f k₀ half₀ i₀ k half i = basics - i
 
+-- a turn of the loop: the start, and from the level of the first run back to the turn
+abbrev start : tie.At-loop Inv-loop μ-loop → tie.Start Inv-loop μ-loop
+start c = c .before .before
+
+abbrev turn : tie.After-c Inv-loop μ-loop → tie.At-loop Inv-loop μ-loop
+turn c = c .before .before .before .before
+
+abbrev read : tie.After-level Inv-loop μ-loop → tie.After-c Inv-loop μ-loop
+read c = c .before .before .before .before
+
 loop-holds : tie.Need-loop-holds Inv-loop μ-loop
 loop-holds c = (omega arith, (refl, (omega arith, λ j h. absurd (omega arith))))
 
@@ -33,32 +43,39 @@ element-copy-out-x c =
     omega (arith, c .wide .ensures .0, pow-half (at .loop .i) 7 (omega arith) (omega arith))
 
 mul-c : tie.Need-mul-c Inv-loop μ-loop
-mul-c c = omega (arith, c .before .before .before .before .before .pre .3 (c .before .wide .result))
+mul-c c = omega (arith, start (c .before .before .before) .pre .3 (c .before .wide .result))
 
 element-copy-out-c : tie.Need-element-copy-out-c Inv-loop μ-loop
-element-copy-out-c c = omega (arith, c .before .before .before .before .before .pre .3 (c .before .wide .result))
+element-copy-out-c c = omega (arith, start (c .before .before .before) .pre .3 (c .before .wide .result))
 
 returns : tie.Need-returns Inv-loop μ-loop
 returns c =
-    let at = c .before .before .before .before .before in
+    let o = c .before .before .before in
+    let at = turn (c .before) in
     let s = at .before .before .args in
     let i = at .loop .i in
-    let e : c .before .before .before .wide .result ≡ 2 ^ i = c .before .before .before .wide .ensures .0 ∙ at .loop .inv .1 .0 in
+    let e : o .wide .result ≡ 2 ^ i = o .wide .ensures .0 ∙ at .loop .inv .1 .0 in
     record {
       below = λ p. absurd (false≢true p);
       reads = λ p. absurd (false≢true p);
-      missing = λ p. (i, (omega arith, λ q. c .if1 .taken (ap (λ (y : ℕ). getD (s .coords .now) (getD (s .place .now) y 0) 0) e ∙ q ∙ sym (at .loop .inv .1 .0))));
+      missing = λ p. (
+        i,
+        (
+          omega arith,
+          λ q. c .if1 .taken (ap (λ (y : ℕ). getD (s .coords .now) (getD (s .place .now) y 0) 0) e ∙ q ∙ sym (at .loop .inv .1 .0)),
+        ),
+      );
     }
 
 mul-level : tie.Need-mul-level Inv-loop μ-loop
-mul-level c = omega (arith, c .before .before .before .before .before .before .before .pre .3 (c .before .before .before .wide .result))
+mul-level c = omega (arith, start (turn (c .before)) .pre .3 (c .before .before .before .wide .result))
 
 shared-slice-read-level : tie.Need-shared-slice-read-level Inv-loop μ-loop
-shared-slice-read-level c = c .before .before .before .before .before .before .before .before .pre .3 (c .before .before .before .before .wide .result)
+shared-slice-read-level c = start (turn (c .before .before)) .pre .3 (c .before .before .before .before .wide .result)
 
 shared-slice-read-level-2 : tie.Need-shared-slice-read-level-2 Inv-loop μ-loop
 shared-slice-read-level-2 c =
-    let h = c .before .before .before .before .before .before .before .before .before .pre .3 0 in
+    let h = start (turn (c .before .before .before)) .pre .3 0 in
     omega arith
 
 level-requires : tie.Need-level-requires Inv-loop μ-loop
@@ -66,13 +83,13 @@ level-requires c κs = search needs
 
 with-level-requires : tie.Need-with-level-requires Inv-loop μ-loop
 with-level-requires c κs =
-    let at = c .before .before .before .before .before .before .before .before in
+    let at = turn (read c) in
     let l = pow-half (at .loop .i) 7 (omega arith) (omega arith) in
     (c .level .ensures .1, omega arith, at .loop .inv .1 .1 .0)
 
 add-half : tie.Need-add-half Inv-loop μ-loop
 add-half c =
-    let at = c .before .before .before .before .before .before .before .before .before in
+    let at = turn (read (c .before)) in
     let l = pow-half (at .loop .i) 7 (omega arith) (omega arith) in
     search needs
 
@@ -84,13 +101,14 @@ loop-less c = search needs
 
 loop-again : tie.Need-loop-again Inv-loop μ-loop
 loop-again c =
-    let at = c .before .before .before .before .before .before .before .before .before in
+    let r = read (c .before) in
+    let at = turn r in
     let s = at .before .before in
     let i = at .loop .i in
     let half = at .loop .half in
     let k = at .loop .k in
     let d = c .before .level .result in
-    let x = getD (s .args .place .now) (c .before .before .before .before .before .before .before .wide .result) 0 in (
+    let x = getD (s .args .place .now) (r .before .before .wide .result) 0 in (
       omega arith,
       (
         pow-twice i half (at .loop .inv .1 .0),
@@ -98,7 +116,7 @@ loop-again c =
           rw (c .with-level .ensures) (read-below half d k (c .before .level .ensures .1) (at .loop .inv .1 .1 .0)),
           rw (c .with-level .ensures)
               (read-more (s .args .t .now) (s .args .coords .now) (s .args .f) i half d k x (at .loop .inv .1 .0) (at .loop .inv .1 .1 .0)
-              (s .pre .3 (c .before .before .before .before .before .before .before .wide .result))
+              (s .pre .3 (r .before .before .wide .result))
               (c .before .before .before .before .if1 .left) (c .before .level .ensures .0) (at .loop .inv .1 .1 .1)),
         ),
       ),
@@ -108,7 +126,11 @@ returns-2 : tie.Need-returns-2 Inv-loop μ-loop
 returns-2 c =
     let at = c .before in
     let e : at .loop .i ≡ at .before .before .args .basics = omega arith in
-    record { below = λ p. subst (λ (i : ℕ). at .loop .k < 2 ^ i) e (omega arith); reads = λ p j h. at .loop .inv .1 .1 .1 j (omega arith); missing = λ p. absurd (true≢false p) }
+    record {
+      below = λ p. subst (λ (i : ℕ). at .loop .k < 2 ^ i) e (omega arith);
+      reads = λ p j h. at .loop .inv .1 .1 .1 j (omega arith);
+      missing = λ p. absurd (true≢false p);
+    }
 
 pub candidate-spec : {M : Type 1} → statement M
 candidate-spec =

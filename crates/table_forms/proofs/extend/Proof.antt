@@ -1,4 +1,5 @@
--- `table_forms::extend` meets its contract. The invariant: the runs passed have the level of the factor above their levels. The measure is what is left of the runs. Assumes nothing.
+-- `table_forms::extend` meets its contract. The invariant: the runs passed have the level of the factor above their levels.
+-- The measure is what is left of the runs. Assumes nothing.
 use mathlib.Core.Path.{_≡_, ap, _∙_, subst}
 use Prim.Native.Nat.{ℕ, _+_, _*_, _-_, _≤_}
 use native.Mathlib.Omega.{arith}

@@ -16,6 +16,13 @@ Inv-loop t coords f k i₀ i = (i ≤ length t) × ((j : ℕ) → j < i → Fits
 abbrev μ-loop : tie.MeasureT-loop
 μ-loop t coords f k i₀ i = length t - i
 
+-- a turn of the loop, and the start
+abbrev start : tie.At-loop Inv-loop μ-loop → tie.Start Inv-loop μ-loop
+start c = c .before .before
+
+abbrev turn : tie.After-level Inv-loop μ-loop → tie.At-loop Inv-loop μ-loop
+turn c = c .before .before .before .before
+
 loop-holds : tie.Need-loop-holds Inv-loop μ-loop
 loop-holds c = (omega arith, λ j h. absurd (omega arith))
 
@@ -42,8 +49,12 @@ parity-requires c κs = search needs
 
 returns : tie.Need-returns Inv-loop μ-loop
 returns c =
-    let at = c .before .before .before .before .before .before .before in
-    record { all = λ e. absurd (false≢true e); some = λ e. (at .loop .i, (omega arith, λ q. c .if1 .taken (c .before .before .before .level .ensures .0 ∙ q ∙ sym (c .before .parity .ensures .0)))) }
+    let o = c .before .before .before in
+    let at = turn o in
+    record {
+      all = λ e. absurd (false≢true e);
+      some = λ e. (at .loop .i, (omega arith, λ q. c .if1 .taken (o .level .ensures .0 ∙ q ∙ sym (c .before .parity .ensures .0))));
+    }
 
 add-i : tie.Need-add-i Inv-loop μ-loop
 add-i c = search needs
@@ -53,8 +64,9 @@ loop-less c = search needs
 
 loop-again : tie.Need-loop-again Inv-loop μ-loop
 loop-again c =
-    let at = c .before .before .before .before .before .before .before in
-    (omega arith, below-more _ _ (at .loop .inv .1) (sym (c .before .before .before .level .ensures .0) ∙ c .if1 .left ∙ c .before .parity .ensures .0))
+    let o = c .before .before .before in
+    let at = turn o in
+    (omega arith, below-more _ _ (at .loop .inv .1) (sym (o .level .ensures .0) ∙ c .if1 .left ∙ c .before .parity .ensures .0))
 
 returns-2 : tie.Need-returns-2 Inv-loop μ-loop
 returns-2 c =

@@ -24,7 +24,11 @@ places-requires c κs =
     let w = s .args .w in (
       omega arith,
       omega arith,
-      λ i h. omega (arith, c .before .extend .ensures .made i h, read-below (w .half) (bit (s .args .f) (diffAt t i)) (getD (w .coords) i 0) (omega arith) (s .pre .1 .2 i h)),
+      λ i h. omega (
+        arith,
+        c .before .extend .ensures .made i h,
+        read-below (w .half) (bit (s .args .f) (diffAt t i)) (getD (w .coords) i 0) (omega arith) (s .pre .1 .2 i h),
+      ),
     )
 
 add-t13 : tie.Need-add-t13

@@ -9,6 +9,13 @@ use Rattle.table_forms.specs.Steps.{ended, walk-small, walk-room, walk-b
 use Rattle.table_forms.proofs.step.Statement.{statement}
 use Rattle.table_forms.proofs.step.Tie as tie
 
+-- from the candidate back to the start, and from its test back to it
+abbrev start : tie.After-candidate → tie.Start
+start c = c .before .before .before .before .before .before
+
+abbrev tried : tie.After-fits2 → tie.After-candidate
+tried c = c .before .before .before .before
+
 candidate-requires : tie.Need-candidate-requires
 candidate-requires c κs =
     let s = c .before .before .before .before .before in
@@ -23,58 +30,73 @@ refuse-requires c κs = search needs
 
 returns : tie.Need-returns
 returns c =
-    let s = c .before .before .before .before .before .before .before .before .before in
+    let o = c .before .before .before in
+    let s = start o in
     let m = s .args .m in
     let t = s .args .t .now in
     let f = s .args .f in
     let w = s .args .w in
-    let k = c .before .before .before .candidate in
-    ended m t (f + 1) (c .refuse .result) (c .refuse .ensures) (step-missing m t f w (s .pre .3) (k .result .column) (k .result .ok) (k .ensures) (not-true _ (c .before .if1 .taken)))
+    let k = o .candidate in
+    ended m t (f + 1) (c .refuse .result) (c .refuse .ensures)
+    (step-missing m t f w (s .pre .3) (k .result .column) (k .result .ok) (k .ensures) (not-true _ (c .before .if1 .taken)))
 
 fits-requires : tie.Need-fits-requires
 fits-requires c κs =
-    let s = c .before .before .before .before .before .before .before .before .before in
+    let s = start (c .before .before .before) in
     (s .pre .0, count-small (s .args .m) (length (s .args .t .now)) (s .pre .1) (s .pre .2) .1)
 
 follow-requires : tie.Need-follow-requires
 follow-requires c κs =
-    let s = c .before .before .before .before .before .before .before .before .before .before .before in
+    let d = tried (c .before) in
+    let s = start d in
     let m = s .args .m in
     let t = s .args .t .now in
     let f = s .args .f in
     let w = s .args .w in
-    let k = c .before .before .before .before .before .candidate in
-    (s .pre .0, omega (arith, step-below m t f w (s .pre .3) (k .result .column) (k .result .ok) (k .ensures) (not-false _ (c .before .before .before .if1 .left)), s .pre .3 .half, walk-small m t f w (s .pre .3) (s .pre .1) .1))
+    let k = d .candidate in (
+      s .pre .0,
+      omega (
+        arith,
+        step-below m t f w (s .pre .3) (k .result .column) (k .result .ok) (k .ensures)
+            (not-false _ (c .before .before .before .if1 .left)),
+        s .pre .3 .half,
+        walk-small m t f w (s .pre .3) (s .pre .1) .1,
+      ),
+    )
 
 returns-2 : tie.Need-returns-2
 returns-2 c =
-    let s = c .before .before .before .before .before .before .before .before .before .before .before .before in
+    let o = c .before .before in
+    let d = tried o in
+    let s = start d in
     let m = s .args .m in
     let t = s .args .t .now in
     let f = s .args .f in
     let w = s .args .w in
-    let k = c .before .before .before .before .before .before .candidate in
+    let k = d .candidate in
     step-follow m t f w (s .pre .3) (k .result .column) (k .result .ok) (k .ensures) (not-false _ (c .before .before .before .before .if1 .left))
-    (c .before .before .fits2 .result) (c .before .before .fits2 .ensures) (c .follow .result) (c .before .if2 .taken) (s .pre .0) (c .follow .ensures)
+    (o .fits2 .result) (o .fits2 .ensures) (c .follow .result) (c .before .if2 .taken) (s .pre .0) (c .follow .ensures)
 
 refuse-requires-2 : tie.Need-refuse-requires-2
 refuse-requires-2 c κs = search needs
 
 returns-3 : tie.Need-returns-3
 returns-3 c =
-    let s = c .before .before .before .before .before .before .before .before .before .before .before .before .before in
+    let o = c .before .before .before in
+    let d = tried o in
+    let s = start d in
     let m = s .args .m in
     let t = s .args .t .now in
     let f = s .args .f in
     let w = s .args .w in
-    let k = c .before .before .before .before .before .before .before .candidate in
+    let k = d .candidate in
     ended m t (f + 1) (c .refuse2 .result) (c .refuse2 .ensures)
     (step-full m t f w (s .pre .3) (k .result .column) (k .result .ok) (k .ensures) (not-false _ (c .before .before .before .before .before .if1 .left))
-    (c .before .before .before .fits2 .result) (c .before .before .before .fits2 .ensures) (c .before .before .if2 .left) (c .before .if3 .taken))
+    (o .fits2 .result) (o .fits2 .ensures) (c .before .before .if2 .left) (c .before .if3 .taken))
 
 grow-requires : tie.Need-grow-requires
 grow-requires c κs =
-    let s = c .before .before .before .before .before .before .before .before .before .before .before .before in
+    let s = start (tried (c .before .before)) in
     let m = s .args .m in
     let t = s .args .t .now in
     let f = s .args .f in
@@ -85,14 +107,16 @@ grow-requires c κs =
 
 returns-4 : tie.Need-returns-4
 returns-4 c =
-    let s = c .before .before .before .before .before .before .before .before .before .before .before .before .before in
+    let o = c .before .before .before in
+    let d = tried o in
+    let s = start d in
     let m = s .args .m in
     let t = s .args .t .now in
     let f = s .args .f in
     let w = s .args .w in
-    let k = c .before .before .before .before .before .before .before .candidate in
+    let k = d .candidate in
     step-grow m t f w (s .pre .3) (k .result .column) (k .result .ok) (k .ensures) (not-false _ (c .before .before .before .before .before .if1 .left))
-    (c .before .before .before .fits2 .result) (c .before .before .before .fits2 .ensures) (c .grow .result) (c .before .before .if2 .left) (s .pre .0) (c .before .if3 .left) (c .grow .ensures)
+    (o .fits2 .result) (o .fits2 .ensures) (c .grow .result) (c .before .before .if2 .left) (s .pre .0) (c .before .if3 .left) (c .grow .ensures)
 
 pub step-spec : {M : Type 1} → statement M
 step-spec =

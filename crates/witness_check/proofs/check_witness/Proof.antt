@@ -12,10 +12,14 @@ use Rattle.witness_check.specs.Verdict.{check-refused, check-size, check
 use Rattle.witness_check.proofs.check_witness.Statement.{statement}
 use Rattle.witness_check.proofs.check_witness.Tie as tie
 
+-- from the refusals back to the start
+abbrev began : tie.After-lower-of → tie.Start
+began c = c .before .before .before .before .before .before
+
 -- nothing is refused: what the sizes are then, and that an answer is no where there is no witness
 module _ (c : tie.Else1) where
   abbrev start : tie.Start
-  start = c .before .before .before .before .before .before .before
+  start = began (c .before)
 
   size : start .args .n ≤ 16
   size =
@@ -23,19 +27,22 @@ module _ (c : tie.Else1) where
       let p = c .before .before .before .admit-runs in
       let q = c .before .before .admit-runs2 in
       let l = c .before .lower-of in
-      check-size (a .n) (a .g) (a .first .now) (a .second .now) (a .names .now) (a .mask) (p .result .number) (q .result .number) (l .result) (p .ensures .lowest) (q .ensures .lowest) (l .ensures) (c .if1 .left)
+      check-size (a .n) (a .g) (a .first .now) (a .second .now) (a .names .now) (a .mask) (p .result .number) (q .result .number) (l .result)
+      (p .ensures .lowest) (q .ensures .lowest) (l .ensures) (c .if1 .left)
 
   abbrev Claimed : Type 0
   Claimed = Witness (start .args .n) (runsOf (start .args .first .now)) (runsOf (start .args .second .now)) (start .args .names .now) (start .args .mask)
 
-  says-no : (Claimed → ⊥) → ChecksWitness (start .args .n) (ofRuns (start .args .n) (start .args .g) (start .args .first .now)) (ofRuns (start .args .n) (start .args .g) (start .args .second .now))
+  says-no : (Claimed → ⊥) → ChecksWitness (start .args .n) (ofRuns (start .args .n) (start .args .g) (start .args .first .now))
+      (ofRuns (start .args .n) (start .args .g) (start .args .second .now))
       (start .args .names .now) (start .args .mask) Checked.No
   says-no h =
       let a = start .args in
       let p = c .before .before .before .admit-runs in
       let q = c .before .before .admit-runs2 in
       let l = c .before .lower-of in
-      check-no (a .n) (a .g) (a .first .now) (a .second .now) (a .names .now) (a .mask) (p .result .number) (q .result .number) (l .result) (p .ensures .lowest) (q .ensures .lowest) (l .ensures) (c .if1 .left) h
+      check-no (a .n) (a .g) (a .first .now) (a .second .now) (a .names .now) (a .mask) (p .result .number) (q .result .number) (l .result)
+      (p .ensures .lowest) (q .ensures .lowest) (l .ensures) (c .if1 .left) h
 
 admit-runs-requires : tie.Need-admit-runs-requires
 admit-runs-requires c κs = search needs
@@ -48,11 +55,12 @@ lower-of-requires c κs = search needs
 
 returns : tie.Need-returns
 returns c =
-    let a = c .before .before .before .before .before .before .before .args in
+    let a = began (c .before) .args in
     let p = c .before .before .before .admit-runs in
     let q = c .before .before .admit-runs2 in
     let l = c .before .lower-of in
-    check-refused (a .n) (a .g) (a .first .now) (a .second .now) (a .names .now) (a .mask) (p .result .number) (q .result .number) (l .result) (p .ensures .lowest) (q .ensures .lowest) (l .ensures) (c .if1 .taken)
+    check-refused (a .n) (a .g) (a .first .now) (a .second .now) (a .names .now) (a .mask) (p .result .number) (q .result .number) (l .result)
+    (p .ensures .lowest) (q .ensures .lowest) (l .ensures) (c .if1 .taken)
 
 each-once-requires : tie.Need-each-once-requires
 each-once-requires c κs = size c
@@ -87,7 +95,8 @@ returns-4 : tie.Need-returns-4
 returns-4 c =
     let at = c .before .before .before .before .before .before .before in
     let a = start at .args in
-    says-no at (not-partnered (a .n) (a .first .now) (a .second .now) (a .names .now) (a .mask) (c .before .partnered .ensures .1 (not-true _ (c .if4 .taken))))
+    says-no at (not-partnered (a .n) (a .first .now) (a .second .now) (a .names .now) (a .mask)
+    (c .before .partnered .ensures .1 (not-true _ (c .if4 .taken))))
 
 returns-5 : tie.Need-returns-5
 returns-5 c =
@@ -100,7 +109,8 @@ returns-5 c =
     let k = c .before .before .before .before .power .ensures .0 in
     let w = c .before .before .before .wide .ensures .0 in
     let v = c .before .before .if3 .left in
-    check-yes (a .n) (a .g) (a .first .now) (a .second .now) (a .names .now) (a .mask) (p .result .number) (q .result .number) (l .result) (p .ensures .lowest) (q .ensures .lowest) (l .ensures) (at .if1 .left)
+    check-yes (a .n) (a .g) (a .first .now) (a .second .now) (a .names .now) (a .mask) (p .result .number) (q .result .number) (l .result) (p .ensures .lowest)
+    (q .ensures .lowest) (l .ensures) (at .if1 .left)
     (named .before .each-once .ensures .0 (not-false _ (named .if2 .left))) (omega arith) (c .before .partnered .ensures .0 (not-false _ (c .if4 .left)))
 
 pub check-witness-spec : {M : Type 1} → statement M

@@ -14,6 +14,10 @@ Inv-loop n names seen₀ f₀ seen f = (f ≤ n) × Used n names f seen
 abbrev μ-loop : tie.MeasureT-loop
 μ-loop n names seen₀ f₀ seen f = n - f
 
+-- a turn of the loop
+abbrev turn : tie.After-as-index Inv-loop μ-loop → tie.At-loop Inv-loop μ-loop
+turn c = c .before .before .before
+
 returns : tie.Need-returns Inv-loop μ-loop
 returns c = tells-no _ _ (λ w. omega (arith, w .count))
 
@@ -28,7 +32,7 @@ as-index-requires c κs = search needs
 
 returns-2 : tie.Need-returns-2 Inv-loop μ-loop
 returns-2 c =
-    let at = c .before .before .before .before in
+    let at = turn (c .before) in
     tells-no _ _ (past-not _ _ (at .loop .f) (c .before .as-index .result) (c .before .as-index .ensures .0) (omega arith) (omega arith))
 
 level-requires : tie.Need-level-requires Inv-loop μ-loop
@@ -36,9 +40,11 @@ level-requires c κs = search needs
 
 returns-3 : tie.Need-returns-3 Inv-loop μ-loop
 returns-3 c =
-    let at = c .before .before .before .before .before .before in
-    let w = c .before .before .before .as-index in
-    tells-no _ _ (twice-not _ _ (at .loop .f) (at .loop .seen) (w .result) (at .loop .inv .1) (w .ensures .0) (omega arith) (omega (arith, c .before .level .ensures .0)))
+    let o = c .before .before .before in
+    let at = turn o in
+    let w = o .as-index in
+    tells-no _ _ (twice-not _ _ (at .loop .f) (at .loop .seen) (w .result) (at .loop .inv .1) (w .ensures .0) (omega arith)
+    (omega (arith, c .before .level .ensures .0)))
 
 cast-seen : tie.Need-cast-seen Inv-loop μ-loop
 cast-seen c = search needs
@@ -54,12 +60,19 @@ loop-less c = search needs
 
 loop-again : tie.Need-loop-again Inv-loop μ-loop
 loop-again c =
-    let at = c .before .before .before .before .before .before in
-    let w = c .before .before .before .as-index in
-    (omega arith, rw (mark-fits (w .result) (omega arith)) (used-more _ _ (at .loop .f) (at .loop .seen) (w .result) (at .loop .inv .1) (w .ensures .0) (omega arith) (omega (arith, c .before .level .ensures))))
+    let o = c .before .before .before in
+    let at = turn o in
+    let w = o .as-index in (
+      omega arith,
+      rw (mark-fits (w .result) (omega arith))
+          (used-more _ _ (at .loop .f) (at .loop .seen) (w .result) (at .loop .inv .1) (w .ensures .0) (omega arith)
+          (omega (arith, c .before .level .ensures))),
+    )
 
 returns-4 : tie.Need-returns-4 Inv-loop μ-loop
-returns-4 c = tells-yes _ _ (used-all _ (c .before .before .before .before .args .names .now) (c .before .loop .f) (c .before .loop .seen) (omega arith) (omega arith) (c .before .loop .inv .1))
+returns-4 c =
+    tells-yes _ _ (used-all _ (c .before .before .before .before .args .names .now) (c .before .loop .f) (c .before .loop .seen) (omega arith) (omega arith)
+    (c .before .loop .inv .1))
 
 pub each-once-spec : {M : Type 1} → statement M
 each-once-spec =

@@ -22,7 +22,8 @@ abbrev μ-loop : tie.MeasureT-loop
 μ-loop n first second names mask all answer₀ i x y j₀ answer j = length second - j
 
 abbrev Inv-runs : tie.InvT-runs
-Inv-runs n first second names mask all answer₀ i₀ answer i = (i ≤ length first) × (((k : ℕ) → k < i → In (sent n names mask (getD first k 0)) second) × (answer ≡ true))
+Inv-runs n first second names mask all answer₀ i₀ answer i =
+    (i ≤ length first) × (((k : ℕ) → k < i → In (sent n names mask (getD first k 0)) second) × (answer ≡ true))
 
 abbrev μ-runs : tie.MeasureT-runs
 μ-runs n first second names mask all answer₀ i₀ answer i = length first - i
@@ -83,7 +84,9 @@ runs-again c =
       omega arith,
       (
         below-more _ _ (out .runs .inv .1 .0)
-            (partner-at (a .n) (a .first .now) (a .second .now) (a .names .now) (a .mask) (out .runs .i) (at .loop .j) (r .renamed .result) (r .renamed .ensures ∙ moved-names (all .result) (a .names .now) (a .n) (getD (a .first .now) (out .runs .i) 0) (λ f _. all .ensures f)) (omega arith) (c .if2 .taken)),
+            (partner-at (a .n) (a .first .now) (a .second .now) (a .names .now) (a .mask) (out .runs .i) (at .loop .j) (r .renamed .result)
+            (r .renamed .ensures ∙ moved-names (all .result) (a .names .now) (a .n) (getD (a .first .now) (out .runs .i) 0) (λ f _. all .ensures f))
+            (omega arith) (c .if2 .taken)),
         at .loop .inv .1 .1,
       ),
     )
@@ -92,7 +95,8 @@ returns : tie.Need-returns Inv-loop μ-loop Inv-runs μ-runs
 returns c =
     let out = c .before in
     let a = out .before .before .before .before .before .args in
-    partner-each (a .n) (a .first .now) (a .second .now) (a .names .now) (a .mask) (out .runs .i) (out .runs .answer) (out .runs .inv .1 .1) (omega arith) (out .runs .inv .1 .0)
+    partner-each (a .n) (a .first .now) (a .second .now) (a .names .now) (a .mask) (out .runs .i) (out .runs .answer) (out .runs .inv .1 .1)
+    (omega arith) (out .runs .inv .1 .0)
 
 returns-2 : tie.Need-returns-2 Inv-loop μ-loop Inv-runs μ-runs
 returns-2 c =
@@ -102,7 +106,9 @@ returns-2 c =
     let all = out .before .array-of in
     let a = out .before .before .before .before .before .args in
     tells-no _ _
-    (partner-none (a .n) (a .first .now) (a .second .now) (a .names .now) (a .mask) (out .runs .i) (at .loop .j) (r .renamed .result) (r .renamed .ensures ∙ moved-names (all .result) (a .names .now) (a .n) (getD (a .first .now) (out .runs .i) 0) (λ f _. all .ensures f)) (omega arith) (omega arith) (at .loop .inv .1 .0))
+    (partner-none (a .n) (a .first .now) (a .second .now) (a .names .now) (a .mask) (out .runs .i) (at .loop .j) (r .renamed .result)
+    (r .renamed .ensures ∙ moved-names (all .result) (a .names .now) (a .n) (getD (a .first .now) (out .runs .i) 0) (λ f _. all .ensures f)) (omega arith)
+    (omega arith) (at .loop .inv .1 .0))
 
 pub partnered-spec : {M : Type 1} → statement M
 partnered-spec =

@@ -18,7 +18,9 @@ total-of-requires : tie.Need-total-of-requires
 total-of-requires c κs = search needs
 
 returns-2 : tie.Need-returns-2
-returns-2 c = let a = c .before .before .args in c .total-of .ensures ∙ sym (ap (λ (b : Bool). pick b (a .unit) (total (a .a .now) (a .f) (a .p))) (ne-eqb (a .p) 0 (c .before .if1 .left)))
+returns-2 c =
+    let a = c .before .before .args in
+    c .total-of .ensures ∙ sym (ap (λ (b : Bool). pick b (a .unit) (total (a .a .now) (a .f) (a .p))) (ne-eqb (a .p) 0 (c .before .if1 .left)))
 
 pub column-spec : {M : Type 1} → statement M
 column-spec = tie.close (tie.spec cast-result returns total-of-requires returns-2)

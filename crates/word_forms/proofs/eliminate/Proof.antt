@@ -17,6 +17,13 @@ Inv-loop n ws piv₀ i₀ piv i = (i ≤ length ws) × Pivots n i ws piv
 abbrev μ-loop : tie.MeasureT-loop
 μ-loop n ws piv₀ i₀ piv i = length ws - i
 
+-- a turn of the loop, and the start
+abbrev start : tie.At-loop Inv-loop μ-loop → tie.Start Inv-loop μ-loop
+start c = c .before .before
+
+abbrev turn : tie.After-reduce Inv-loop μ-loop → tie.At-loop Inv-loop μ-loop
+turn c = c .before .before .before .before
+
 loop-holds : tie.Need-loop-holds Inv-loop μ-loop
 loop-holds c = (omega arith, pivots-none (c .before .args .n) (c .before .args .ws .now) (omega arith))
 
@@ -31,22 +38,23 @@ reduce-requires c κs = search needs
 
 returns : tie.Need-returns Inv-loop μ-loop
 returns c =
-    let at = c .before .before .before .before .before in
+    let at = turn (c .before) in
     let s = at .before .before in
     let ws = s .args .ws .now in
     let i = at .loop .i in
     let w = c .before .reduce .result in
     let el = at .loop .inv .1 in
     let hw = s .pre .1 i (omega arith) in
-    elimination-not (s .args .n) (length ws) ws (at .loop .piv) (eliminate-never (s .args .n) i ws (at .loop .piv) w el hw (c .before .reduce .ensures) (length ws) (omega arith) (c .if1 .taken))
+    elimination-not (s .args .n) (length ws) ws (at .loop .piv)
+    (eliminate-never (s .args .n) i ws (at .loop .piv) w el hw (c .before .reduce .ensures) (length ws) (omega arith) (c .if1 .taken))
 
 last-of-requires : tie.Need-last-of-requires Inv-loop μ-loop
 last-of-requires c κs = search needs
 
 -- the last letter of the word at hand is one of the n
-letter-lt : (c : tie.After-last-of Inv-loop μ-loop) → c .last-of .result < c .before .before .before .before .before .before .before .before .args .n
+letter-lt : (c : tie.After-last-of Inv-loop μ-loop) → c .last-of .result < start (turn (c .before .before)) .args .n
 letter-lt c =
-    let at = c .before .before .before .before .before .before in
+    let at = turn (c .before .before) in
     let s = at .before .before in
     let i = at .loop .i in
     let hw = s .pre .1 i (omega arith) in
@@ -71,14 +79,18 @@ loop-less c = search needs
 
 loop-again : tie.Need-loop-again Inv-loop μ-loop
 loop-again c =
-    let at = c .before .before .before .before .before .before in
+    let o = c .before .before in
+    let at = turn o in
     let s = at .before .before in
     let ws = s .args .ws .now in
     let i = at .loop .i in
-    let w = c .before .before .reduce .result in
+    let w = o .reduce .result in
     let el = at .loop .inv .1 in
-    let hw = s .pre .1 i (omega arith) in
-    (omega arith, eliminate-turn (s .args .n) i ws (at .loop .piv) w el hw (c .before .before .reduce .ensures) (c .last-of .result) (c .last-of .ensures) (c .before .if1 .left))
+    let hw = s .pre .1 i (omega arith) in (
+      omega arith,
+      eliminate-turn (s .args .n) i ws (at .loop .piv) w el hw (o .reduce .ensures) (c .last-of .result)
+          (c .last-of .ensures) (c .before .if1 .left),
+    )
 
 returns-2 : tie.Need-returns-2 Inv-loop μ-loop
 returns-2 c =

@@ -35,8 +35,11 @@ loop-less c = search needs
 loop-again : tie.Need-loop-again Inv-loop μ-loop
 loop-again c =
     let at = c .before .before .before in
-    let s = at .before .args in
-    (omega arith, at .loop .inv .1 ∙ reduce-turn (s .piv .now) (at .loop .f) (at .loop .v) (omega arith) ∙ ap (reduced (s .piv .now) (at .loop .f - 1)) (sym (c .clear .ensures)))
+    let s = at .before .args in (
+      omega arith,
+      at .loop .inv .1 ∙ reduce-turn (s .piv .now) (at .loop .f) (at .loop .v) (omega arith)
+          ∙ ap (reduced (s .piv .now) (at .loop .f - 1)) (sym (c .clear .ensures)),
+    )
 
 returns : tie.Need-returns Inv-loop μ-loop
 returns c =

@@ -11,15 +11,21 @@ use Rattle.word_forms.specs.Turns.{found-done}
 use Rattle.word_forms.proofs.words_columns.Statement.{statement}
 use Rattle.word_forms.proofs.words_columns.Tie as tie
 
+-- from the eliminated words back to the start
+abbrev start : tie.After-eliminate → tie.Start
+start c = c .before .before
+
 eliminate-requires : tie.Need-eliminate-requires
 eliminate-requires c κs = search needs
 
 returns : tie.Need-returns
 returns c =
-    let s = c .before .before .before .before in
-    let e = c .before .before .eliminate in
+    let o = c .before .before in
+    let s = start o in
+    let e = o .eliminate in
     let ws = s .args .ws .now in
-    not-found (s .args .n) (s .args .n - length ws) (Independent (length ws) ws) (Generated (s .args .n) (length ws) ws) (e .ensures .dependent (not-true _ (c .if1 .taken)))
+    not-found (s .args .n) (s .args .n - length ws) (Independent (length ws) ws) (Generated (s .args .n) (length ws) ws)
+    (e .ensures .dependent (not-true _ (c .if1 .taken)))
 
 read-columns-requires : tie.Need-read-columns-requires
 read-columns-requires c κs =
@@ -28,8 +34,9 @@ read-columns-requires c κs =
 
 returns-2 : tie.Need-returns-2
 returns-2 c =
-    let s = c .before .before .before .before .before .before in
-    let e = c .before .before .before .before .eliminate in
+    let o = c .before .before .before .before in
+    let s = start o in
+    let e = o .eliminate in
     let ws = s .args .ws .now in
     let done = e .ensures .done (not-false _ (c .before .before .if1 .left)) in
     found-done (s .args .n) (length ws) ws (e .result .piv) (c .read-columns .result) (omega arith) done (c .read-columns .ensures)
