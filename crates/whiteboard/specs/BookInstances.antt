@@ -13,7 +13,8 @@ use Rattle.regular.specs.Book.{mostPlans, CountFault, WritesPlans, WritesDesign
 use Rattle.regular.specs.Columns.{planOf}
 use Rattle.regular.specs.Designs.{blank}
 use Rattle.regular.specs.Pattern.{Pattern}
-use Rattle.regular.specs.PlanLists.{planAt, wantedRecordsFaults, wantedPlansFaults}
+use Rattle.regular.specs.PlanBytes.{planAt}
+use Rattle.regular.specs.PlanLists.{wantedRecordsFaults, wantedPlansFaults}
 use Rattle.regular.specs.RefusalLaws.{lowest-none, lowest-then, lent-fits, lent-short}
 use Rattle.regular.specs.Refusals.{LentFault, either, Lowest}
 use Rattle.regular.specs.Smallest.{Equal}
