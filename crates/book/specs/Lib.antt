@@ -1,5 +1,6 @@
 pub mod Over
 pub mod Writing
+pub mod EntryLaws
 pub mod WritingLaws
 pub mod PutLaws
 pub mod PlanLaws

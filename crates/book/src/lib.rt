@@ -1,35 +1,50 @@
 // The book of a list of plans, into lent bytes: all is judged first, then the header and entry after entry are written.
 ghost use mathlib.Core.Path.{_≡_};
 ghost use Prim.Native.Nat.{ℕ, _+_, _*_, _-_, _/_, _≤_};
-ghost use mathlib.Core.List.{_++_};
 ghost use lib.ListN.{length};
-ghost use Rattle.regular.specs.Columns.{planOf};
 ghost use Rattle.regular.specs.Pattern.{ofLength};
 ghost use Rattle.regular.specs.Refusals.{Lowest, designFaults};
 ghost use Rattle.plan_lists.specs.Accepted.{AcceptedPlans};
-ghost use Rattle.regular.specs.Book.{lowFirst, each, columnsRecord, patternRecord, header, bookLength, CountFault, WritesPlans, WritesDesigns};
+ghost use Rattle.regular.specs.Book.{lowFirst, each, header, headerLength, entryRecords, entryLength};
+ghost use Rattle.regular.specs.Book.{bookLength, mostPlans, CountFault, WritesPlans, WritesDesigns};
 ghost use Rattle.admission.specs.Admission.{Ready};
 ghost use Rattle.book.specs.Over.{over};
-ghost use Rattle.book.specs.Writing.{entryLength, PutEntry, Refusal, Opened, Adds, PlansWritten};
+ghost use Rattle.book.specs.Writing.{standardEntry, PutEntry, BookRefusal, Opened, EntryAdded, PlansWritten};
 use admission::lower_of;
 use regular::BookAnswer;
 use regular::Design;
+
+// The kinds of records: 0x01 the header, 0x20 + n the columns of n factors, 0x40 + n their pattern.
+const HEADER_KIND: u8 = 1;
+
+const COLUMNS_KIND: usize = 32;
+
+const PATTERN_KIND: usize = 64;
+
+// How long the header is.
+const HEADER_LENGTH: usize = 6;
+
+// The most plans that the header can count.
+const MOST_PLANS: usize = 65535;
+
+// How many values a byte has.
+const BYTE_VALUES: u16 = 256;
 
 // A number of 16 bits, low byte first, at two places.
 fn put_number(x: u16, at: usize, out: &mut [u8])
     requires { ⌜ at + 2 ≤ length (now out) ⌝ }
     ensures { λ _. ⌜ now (out .exit) ≡ over at (lowFirst x) (now (out .entry)) ⌝ }
 {
-    out[at] = (x % 256) as u8;
-    out[at + 1] = (x / 256) as u8;
+    out[at] = (x % BYTE_VALUES) as u8;
+    out[at + 1] = (x / BYTE_VALUES) as u8;
 }
 
 // The header.
 fn put_header(n: usize, g: usize, r: usize, count: usize, out: &mut [u8])
-    requires { ⌜ (n ≤ 16) × (g ≤ 16) × (r ≤ 16) × (count ≤ 65535) × (6 ≤ length (now out)) ⌝ }
+    requires { ⌜ (n ≤ 16) × (g ≤ 16) × (r ≤ 16) × (count ≤ mostPlans) × (headerLength ≤ length (now out)) ⌝ }
     ensures { λ _. ⌜ now (out .exit) ≡ over 0 (header n g r count) (now (out .entry)) ⌝ }
 {
-    out[0] = 1;
+    out[0] = HEADER_KIND;
     out[1] = n as u8;
     out[2] = g as u8;
     out[3] = r as u8;
@@ -39,7 +54,8 @@ fn put_header(n: usize, g: usize, r: usize, count: usize, out: &mut [u8])
 // The counts for lengths 3 to n; and the place after them.
 fn put_counts(n: usize, counts: [u16; 16], at: usize, out: &mut [u8]) -> usize
     requires { ⌜ (n ≤ 16) × (at + 2 * (n - 2) ≤ length (now out)) ⌝ }
-    ensures { λ res. ⌜ (now (out .exit) ≡ over at (each (λ i. lowFirst (ofLength counts (3 + i))) (n - 2)) (now (out .entry))) × (res ≡ at + 2 * (n - 2)) ⌝ }
+    ensures { λ res. ⌜ (now (out .exit) ≡ over at (each (λ i. lowFirst (ofLength counts (3 + i))) (n - 2)) (now (out .entry)))
+        × (res ≡ at + 2 * (n - 2)) ⌝ }
 {
     let mut i: usize = 2;
     let mut to = at;
@@ -55,12 +71,12 @@ fn put_counts(n: usize, counts: [u16; 16], at: usize, out: &mut [u8]) -> usize
 // An entry, its columns and its pattern; and the place after it.
 fn put_entry(n: usize, columns: [u8; 16], counts: [u16; 16], at: usize, out: &mut [u8]) -> usize
     requires { ⌜ (n ≤ 16) × (at + entryLength n ≤ length (now out)) ⌝ }
-    ensures { λ res. ⌜ (now (out .exit) ≡ over at (columnsRecord n columns ++ patternRecord n counts) (now (out .entry))) × (res ≡ at + entryLength n) ⌝ }
+    ensures { λ res. ⌜ (now (out .exit) ≡ over at (entryRecords n columns counts) (now (out .entry))) × (res ≡ at + entryLength n) ⌝ }
 {
-    out[at] = (32 + n) as u8;
+    out[at] = (COLUMNS_KIND + n) as u8;
     lent::put_first(n, columns, at + 1, out);
     let next = at + 1 + n;
-    out[next] = (64 + n) as u8;
+    out[next] = (PATTERN_KIND + n) as u8;
     put_counts(n, counts, next + 1, out)
 }
 
@@ -74,7 +90,7 @@ fn put_plan(
     out: &mut [u8],
 ) -> usize
     requires { ⌜ Ready n g standard × (at + entryLength n ≤ length (now out)) ⌝ }
-    ensures { λ res. ⌜ PutEntry n (planOf n (n - g) standard) columns at (now (out .entry)) (now (out .exit)) res ⌝ }
+    ensures { λ res. ⌜ PutEntry n (standardEntry n g columns standard) at (now (out .entry)) (now (out .exit)) res ⌝ }
 {
     let counts = measures::pattern(n, g, standard);
     put_entry(n, columns, counts, at, out)
@@ -94,27 +110,35 @@ fn count_of(n: usize, len: usize) -> usize
 fn many(count: usize) -> u8
     ensures { λ k. ⌜ Lowest (CountFault count) k ⌝ }
 {
-    if 65535 < count {
+    if MOST_PLANS < count {
         return 4;
     }
     0
 }
 
-// How long the book is.
-fn book_length(n: usize, count: usize) -> usize
-    requires { ⌜ (n ≤ 16) × (count ≤ 65535) ⌝ }
-    ensures { λ res. ⌜ res ≡ bookLength n count ⌝ }
+// How long an entry is.
+fn entry_length(n: usize) -> usize
+    requires { ⌜ n ≤ 16 ⌝ }
+    ensures { λ res. ⌜ res ≡ entryLength n ⌝ }
 {
     if n < 2 {
-        return 6 + count * (n + 2);
+        return n + 2;
     }
-    6 + count * (n + 2 + 2 * (n - 2))
+    n + 2 + 2 * (n - 2)
+}
+
+// How long the book is.
+fn book_length(n: usize, count: usize) -> usize
+    requires { ⌜ (n ≤ 16) × (count ≤ mostPlans) ⌝ }
+    ensures { λ res. ⌜ res ≡ bookLength n count ⌝ }
+{
+    HEADER_LENGTH + count * entry_length(n)
 }
 
 // The call's refusal: by the plans' number or their count, then 8 if the lent bytes are too few.
 fn refusal(n: usize, count: usize, number: u8, places: usize) -> u8
     requires { ⌜ (number ≡ 0 → n ≤ 16) ⌝ }
-    ensures { λ k. ⌜ Refusal n count number places k ⌝ }
+    ensures { λ k. ⌜ BookRefusal n count number places k ⌝ }
 {
     let low = lower_of(number, many(count));
     if low != 0 {
@@ -138,7 +162,7 @@ fn begin(n: usize, g: usize, r: usize, count: usize, number: u8, out: &mut [u8])
     put_header(n, g, r, count, out);
     BookAnswer {
         number: 0,
-        count: 6,
+        count: HEADER_LENGTH,
     }
 }
 
@@ -181,7 +205,7 @@ pub fn write_book(n: usize, g: usize, r: usize, plans: &[u8], out: &mut [u8]) ->
 // One record's entry more, if nothing was refused.
 fn add(n: usize, g: usize, design: Design, answer: BookAnswer, out: &mut [u8]) -> BookAnswer
     requires { ⌜ (answer .number ≡ 0 → (Lowest (designFaults n g design) 0 × (answer .count + entryLength n ≤ length (now out)))) ⌝ }
-    ensures { λ res. ⌜ Adds n g design (answer .number) (answer .count) (now (out .entry)) (now (out .exit)) (res .number) (res .count) ⌝ }
+    ensures { λ res. ⌜ EntryAdded n g design (answer .number) (answer .count) (now (out .entry)) (now (out .exit)) (res .number) (res .count) ⌝ }
 {
     if answer.number != 0 {
         return answer;

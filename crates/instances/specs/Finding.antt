@@ -24,6 +24,7 @@ use Rattle.smallest_laws.specs.UnitForms.{rising-distinct}
 use Rattle.search.specs.Search.{On, Picks, Free, Alike, Placed, Tables, Presence}
 use Rattle.search.specs.Steps.{Block, Blocks, HasUnits, Low, Left, At, Own, Scanning, Going}
 use Rattle.search.specs.Masks.{off}
+use Rattle.smallest_test_laws.specs.FairMasks.{FairMasks, allFactors, all-factors, all-picks, all-fair}
 use Rattle.smallest_test_laws.specs.Above.{Above}
 use Rattle.smallest_test_laws.specs.Branches.{Identity}
 use Rattle.smallest_test_laws.specs.Later.{AllLater, later-none}
@@ -107,10 +108,17 @@ identity-1 = record { long = refl; at = first (λ k. getD marks k 0 ≡ k) refl 
 pub above-1 : Above 1 column 0 1
 above-1 = record { to = member (λ i. (i < 1) × (1 ≤ getD column i 0)) (omega arith, omega arith); from = λ i h l. first (λ j. On j 1) refl i h }
 
-pub later-1 : AllLater 1 1 column 0 (replicate 128 0)
-later-1 = later-none 1 1 column 0 (replicate 128 0) blank-128
+-- every factor is allowed as its image
+pub fair-1 : FairMasks allFactors 1 1 column
+fair-1 = all-fair 1 1 column allFactors (all-factors 1 1 (omega arith) (omega arith)) units-1
 
--- of the columns 1 and 2, exchanging them carries 1 up to 2, which is marked
+pub allowed-1 : On 0 (getD allFactors 0 0)
+allowed-1 = all-factors 1 1 (omega arith) (omega arith) 0 0 (omega arith) (omega arith)
+
+pub later-1 : AllLater allFactors 1 1 column 0 (replicate 128 0)
+later-1 = later-none allFactors 1 1 column 0 (replicate 128 0) blank-128
+
+-- of the columns 1 and 2, the automorphism that exchanges them gives 2 as the image of 1: 2 is marked
 abbrev pub pair : List ℕ
 pair = 1 ∷ 2 ∷ []
 
@@ -140,13 +148,16 @@ exchanged = record { count = refl; columns = columns; free = free; alike = alike
     alike (suc (suc (suc zero))) p l = record { into = λ c. absurd (not-three c); onto = λ c. absurd (not-three c) }
     alike (suc (suc (suc (suc k)))) p l = absurd (omega arith)
 
-pub later-2 : AllLater 2 2 pair 0 (0 ∷ 0 ∷ 1 ∷ replicate 125 0)
+pub later-2 : AllLater allFactors 2 2 pair 0 (0 ∷ 0 ∷ 1 ∷ replicate 125 0)
 unfolding vec
 later-2 zero l ne = absurd (ne refl)
 later-2 (suc zero) l ne = absurd (ne refl)
 later-2 (suc (suc zero)) l ne = record {
   by = pair;
-  match = exchanged;
+  automorphism = record {
+    match = exchanged;
+    picks = all-picks 2 2 pair allFactors (all-factors 2 2 (omega arith) (omega arith)) pair (omega arith) (exchanged .columns);
+  };
   keeps = first (λ k. vec pair k ≡ k) refl;
   from = 1;
   smaller = omega arith;
@@ -155,13 +166,14 @@ later-2 (suc (suc zero)) l ne = record {
 }
 later-2 (suc (suc (suc y))) l ne = absurd (ne (zeros 125 y))
 
-pub clear-1 : Clear 1 1 column 1
-clear-1 = clear-all 1 1 column
+pub clear-1 : Clear allFactors 1 1 column 1
+clear-1 = clear-all allFactors 1 1 column
 
 -- .. all that a trial at the unit requires at once
-pub trial-1 : (Rising 1 1 column × Units 1 1 column) × (Presence column 1 marks × Tables column marks sums 1 × Identity 0 marks × Blocks marks 1 (1 ∷ replicate 7 0) × Above 1 column 0 1)
-    × (AllLater 1 1 column 0 (replicate 128 0) × Clear 1 1 column 1)
-trial-1 = ((rising-1, units-1), (presence-1, tables-1, identity-1, blocks-1, above-1), (later-1, clear-1))
+pub trial-1 : (On 0 (getD allFactors 0 0) × Rising 1 1 column × FairMasks allFactors 1 1 column)
+    × (Presence column 1 marks × Tables column marks sums 1 × Identity 0 marks × Blocks marks 1 (1 ∷ replicate 7 0) × Above 1 column 0 1)
+    × (AllLater allFactors 1 1 column 0 (replicate 128 0) × Clear allFactors 1 1 column 1)
+trial-1 = ((allowed-1, rising-1, fair-1), (presence-1, tables-1, identity-1, blocks-1, above-1), (later-1, clear-1))
 
 -- the smallest form: nothing placed, then the column placed, and a form to start from
 pub reaches-0 : Reaches 1 1 column 1 (replicate 128 0) []

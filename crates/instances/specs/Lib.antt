@@ -2,3 +2,4 @@ pub mod Inner
 pub mod Searching
 pub mod Walking
 pub mod Finding
+pub mod MasksByKind

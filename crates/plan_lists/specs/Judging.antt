@@ -9,13 +9,11 @@ use native.Mathlib.Numerals.{add-one}
 use native.Mathlib.Omega.{arith}
 use lib.Arith.{digits-mod}
 use lib.ListN.{length, getD, take, drop}
-use Rattle.gf2.specs.Letters.{ones-some}
 use Rattle.regular.specs.Runs.{Runs, switched}
 use Rattle.regular.specs.Given.{Given}
 use Rattle.regular.specs.Words.{NoShort}
 use Rattle.regular.specs.Columns.{planOf}
 use Rattle.regular.specs.Designs.{blank}
-use Rattle.regular.specs.Pattern.{Pattern, Resolution}
 use Rattle.regular.specs.Refusals.{Short, ResolutionFault, ColumnsFault, WantedFault, either, Lowest, sizeFaults}
 use Rattle.regular.specs.RefusalLaws.{lowest-none, lowest-at, lowest-same, lowest-first, lowest-then, lowest-lower, none-lowest, list-is, columns-least, Lower}
 use Rattle.regular.specs.PlanLists.{planAt, HasPlan, BytesFault, ofSome, recordsFaults, plansFaults, wantedRecordsFaults, wantedPlansFaults}
@@ -23,8 +21,6 @@ use Rattle.regular.specs.declared.Design.{Design}
 use Rattle.regular.specs.declared.Admitted.{Admitted}
 use Rattle.words.specs.Short.{distinct-long}
 use Rattle.words.specs.Switches.{agree-sym, short-agree, short-switched, switched-twice}
-use Rattle.counts.specs.Models.{firstLength}
-use Rattle.counts.specs.Resolutions.{resolution-of-pattern}
 use Rattle.admission.specs.Admission.{Admission, Ready}
 use Rattle.plan_lists.specs.Judged.{wanted, designWanted, columnsWanted, Verdict, Joined, AllJudged}
 

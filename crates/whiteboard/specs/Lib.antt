@@ -11,6 +11,7 @@ pub mod RefusalInstances
 pub mod AnswerInstances
 pub mod ResultInstances
 pub mod ListInstances
+pub mod BookInstances
 pub mod LawInstances
 pub mod WordSets
 pub mod ToldApart

@@ -22,7 +22,6 @@ use Rattle.regular.specs.Refusals.{SizeFault, ResolutionFault, WordsFault, Colu
 use Rattle.regular.specs.RefusalLaws.{lowest-none, lowest-at, words-least, none-lowest, lent-is}
 use Rattle.regular.specs.PlanLists.{BytesFault}
 use Rattle.regular.specs.Catalogues.{catalogueFaults}
-use Rattle.regular.specs.Book.{CountFault}
 use Rattle.regular.specs.Smallest.{Entry}
 use Rattle.regular.specs.declared.Design.{Design}
 use Rattle.standard.specs.Total.{total-unit}
@@ -314,6 +313,3 @@ fault-lent = LentFault.few (omega arith)
 
 pub fault-bytes : BytesFault 4 (1 ∷ 2 ∷ 4 ∷ []) 4
 fault-bytes = BytesFault.count (λ count e. omega arith)
-
-pub fault-many : CountFault 65536 4
-fault-many = CountFault.many (omega arith)

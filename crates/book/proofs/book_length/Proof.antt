@@ -1,64 +1,30 @@
--- `book::book_length` meets its contract: the length of an entry times their count, which fits. Assumes nothing.
-use Prim.Native.Nat.{_+_, _*_, _-_}
+-- `book::book_length` meets its contract: the header's length, and that of an entry times their count, which fits. Assumes nothing.
+use Prim.Native.Nat.{ℕ, _+_, _*_, _≤_}
+use mathlib.Core.Path.{ap, subst, sym}
 use native.Mathlib.Omega.{arith}
-use borrow.Author.Needs.{needs}
-use Rattle.book.specs.PutLaws.{entries-fit, length-low, length-high}
+use Rattle.regular.specs.Book.{headerLength, entryLength, mostPlans}
+use Rattle.book.specs.PutLaws.{entries-fit}
 use Rattle.book.proofs.book_length.Statement.{statement}
 use Rattle.book.proofs.book_length.Tie as tie
 
-add-result : tie.Need-add-result
-add-result c = search needs
+-- the entries' length fits
+entries : (c : tie.After-entry-length) → c .before .args .count * c .entry-length .result ≤ mostPlans * entryLength 16
+entries c =
+    let a = c .before .args in
+    subst (λ (e : ℕ). a .count * e ≤ mostPlans * entryLength 16) (sym (c .entry-length .ensures))
+    (entries-fit (a .n) (a .count) (c .before .pre .0) (c .before .pre .1))
+
+entry-length-requires : tie.Need-entry-length-requires
+entry-length-requires c κs = c .pre .0
 
 mul-result : tie.Need-mul-result
-mul-result c =
-    let a = c .before .args in
-    let h = entries-fit (a .count) (a .n + 2) (c .before .pre .1) (omega arith) in
-    record { fits = omega arith }
+mul-result c = record { fits = omega (arith, entries c) }
 
-add-result-2 : tie.Need-add-result-2
-add-result-2 c =
-    let a = c .before .args in
-    let h = entries-fit (a .count) (a .n + 2) (c .before .pre .1) (omega arith) in
-    record { fits = omega arith }
+add-result : tie.Need-add-result
+add-result c = record { fits = omega (arith, entries c) }
 
 returns : tie.Need-returns
-returns c = length-low (c .before .args .n) (c .before .args .count) (c .if1 .taken)
-
-add-result-3 : tie.Need-add-result-3
-add-result-3 c = search needs
-
-mul-result-2 : tie.Need-mul-result-2
-mul-result-2 c = search needs
-
-add-result-4 : tie.Need-add-result-4
-add-result-4 c = search needs
-
-mul-result-3 : tie.Need-mul-result-3
-mul-result-3 c =
-    let a = c .before .args in
-    let h = entries-fit (a .count) (a .n + 2 + 2 * (a .n - 2)) (c .before .pre .1) (omega (arith, c .before .pre .0)) in
-    record { fits = omega arith }
-
-add-result-5 : tie.Need-add-result-5
-add-result-5 c =
-    let a = c .before .args in
-    let h = entries-fit (a .count) (a .n + 2 + 2 * (a .n - 2)) (c .before .pre .1) (omega (arith, c .before .pre .0)) in
-    record { fits = omega arith }
-
-returns-2 : tie.Need-returns-2
-returns-2 c = length-high (c .before .args .n) (c .before .args .count) (c .if1 .left)
+returns c = ap (λ (e : ℕ). headerLength + c .before .args .count * e) (c .entry-length .ensures)
 
 pub book-length-spec : {M : Type 1} → statement M
-book-length-spec =
-    tie.close
-    (tie.spec
-    add-result
-    mul-result
-    add-result-2
-    returns
-    add-result-3
-    mul-result-2
-    add-result-4
-    mul-result-3
-    add-result-5
-    returns-2)
+book-length-spec = tie.close (tie.spec entry-length-requires mul-result add-result returns)

@@ -42,9 +42,10 @@ loop-less c = omega (arith, c .before .before .before .before .loop-test .taken)
 
 loop-again : tie.Need-loop-again Inv-loop μ-loop
 loop-again c =
-    let s = c .before .before .before .before .before .before .before in
-    let l = c .before .before .before .before .before .loop in
-    counts-turn (s .pre .1) (c .before .before .before .before .loop-test .taken) (l .inv) (c .before .before .put-number .ensures)
+    let p = c .before .before in
+    let t = p .before .before in
+    let l = t .before in
+    counts-turn (l .before .before .pre .1) (t .loop-test .taken) (l .loop .inv) (p .put-number .ensures)
 
 same-length : tie.Need-same-length Inv-loop μ-loop
 same-length c = c .before .loop .inv .size

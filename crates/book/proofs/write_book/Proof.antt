@@ -1,16 +1,51 @@
 -- `book::write_book` meets its contract: all is judged, the header is begun, then the entries follow. Assumes nothing.
-use mathlib.Core.Path.{refl, subst}
-use Prim.Native.Nat.{ℕ, _/_}
+use mathlib.Core.Path.{_≡_, refl, subst}
+use mathlib.Core.List.{List}
+use Prim.Native.Nat.{ℕ, _/_, _≤_}
 use borrow.Author.Needs.{needs}
 use lib.ListN.{length}
 use Rattle.regular.specs.Refusals.{Lowest}
 use Rattle.regular.specs.PlanLists.{wantedPlansFaults}
-use Rattle.plan_lists.specs.Accepted.{plans-accepted, plans-most}
+use Rattle.regular.specs.Book.{bookLength}
+use Rattle.plan_lists.specs.Accepted.{AcceptedPlans, plans-accepted, plans-most}
 use Rattle.book.specs.Writing.{Opened}
 use Rattle.book.specs.WritingLaws.{refusal-none, begun-room, writes-refused, writes-book}
 use Rattle.book.specs.PlanLaws.{plans-bounds, plans-all}
 use Rattle.book.proofs.write_book.Statement.{statement}
 use Rattle.book.proofs.write_book.Tie as tie
+
+-- the header is begun: the plans' number, the bytes then, and what was promised of them for the count of plans
+module _ (c : tie.After-begin) where
+  abbrev start : tie.Start
+  start = c .before .before .before .before .before .before
+
+  abbrev number : ℕ
+  number = c .before .before .before .plans-refusal .result
+
+  lowest : Lowest (wantedPlansFaults (start .args .n) (start .args .g) (start .args .r) (start .args .plans .now)) number
+  lowest = c .before .before .before .plans-refusal .ensures
+
+  abbrev bytes : List ℕ
+  bytes = c .begin .last .1 .1 .1 .1 .1 .0
+
+  abbrev OpenedFor : ℕ → Type 0
+  OpenedFor count =
+      let a = start .args in
+      Opened (a .n) (a .g) (a .r) count number (a .out .now) bytes (c .begin .result .number) (c .begin .result .count)
+
+  opened : OpenedFor (length (start .args .plans .now) / start .args .n)
+  opened = subst OpenedFor (c .before .before .count-of .ensures) (c .begin .ensures)
+
+  -- where nothing is refused: no plan has a fault, and there is room
+  module _ (e : c .begin .result .number ≡ 0) where
+    accepted : AcceptedPlans (start .args .n) (start .args .g) (start .args .r) (start .args .plans .now)
+    accepted =
+        let a = start .args in
+        let z = refusal-none (a .n) (length (a .plans .now) / a .n) number (length (a .out .now)) (c .begin .result .number) e (opened .refusal) .plans in
+        plans-accepted (a .n) (a .g) (a .r) (a .plans .now) (subst (Lowest (wantedPlansFaults (a .n) (a .g) (a .r) (a .plans .now))) z lowest)
+
+    room : bookLength (start .args .n) (length (start .args .plans .now) / start .args .n) ≤ length bytes
+    room = begun-room opened e
 
 plans-refusal-requires : tie.Need-plans-refusal-requires
 plans-refusal-requires c κs = search needs
@@ -20,9 +55,9 @@ count-of-requires c κs = search needs
 
 begin-requires : tie.Need-begin-requires
 begin-requires c κs =
-    let a = c .before .before .before .before .before .args in
-    let q = c .before .before .plans-refusal in
-    λ e. plans-bounds (a .n) (a .g) (a .r) (q .result) (a .plans .now) (q .ensures) e
+    let q = c .before .before in
+    let a = q .before .before .before .args in
+    λ e. plans-bounds (a .n) (a .g) (a .r) (q .plans-refusal .result) (a .plans .now) (q .plans-refusal .ensures) e
 
 same-length : tie.Need-same-length
 same-length c = search needs
@@ -30,43 +65,28 @@ same-length c = search needs
 returns : tie.Need-returns
 returns c =
     let b = c .before .before .before .before in
-    let s = b .before .before .before .before .before .before in
-    let a = s .args in
-    let p = b .before .before .before .plans-refusal in
-    let begun = subst (λ (k : ℕ). Opened (a .n) (a .g) (a .r) k (p .result) (a .out .now) (b .begin .last .1 .1 .1 .1 .1 .0) (b .begin .result .number) (b .begin .result .count)) (b .before .before .count-of .ensures) (b .begin .ensures) in
-    let most = plans-most (a .n) (a .g) (a .r) (a .plans .now) in
-    writes-refused most (p .ensures) begun (c .if1 .taken)
+    let a = start b .args in
+    writes-refused (plans-most (a .n) (a .g) (a .r) (a .plans .now)) (lowest b) (opened b) (c .if1 .taken)
 
 put-plans-requires : tie.Need-put-plans-requires
 put-plans-requires c κs =
-    let b = c .before .before .before .before .before in
-    let s = b .before .before .before .before .before .before in
-    let a = s .args in
-    let p = b .before .before .before .plans-refusal in
-    let begun = subst (λ (k : ℕ). Opened (a .n) (a .g) (a .r) k (p .result) (a .out .now) (b .begin .last .1 .1 .1 .1 .1 .0) (b .begin .result .number) (b .begin .result .count)) (b .before .before .count-of .ensures) (b .begin .ensures) in
-    let most = plans-most (a .n) (a .g) (a .r) (a .plans .now) in
-    let e = c .before .if1 .left in
-    let z = refusal-none (a .n) (length (a .plans .now) / a .n) (p .result) (length (a .out .now)) (b .begin .result .number) e (begun .refusal) .plans in
-    let ok = plans-accepted (a .n) (a .g) (a .r) (a .plans .now) (subst (Lowest (wantedPlansFaults (a .n) (a .g) (a .r) (a .plans .now))) z (p .ensures)) in
-    ((a .r, ok), begun-room begun e)
+    let z = c .before in
+    let b = z .before .before .before .before in
+    let e = z .if1 .left in
+    ((start b .args .r, accepted b e), room b e)
 
 same-length-2 : tie.Need-same-length-2
 same-length-2 c = search needs
 
 returns-2 : tie.Need-returns-2
 returns-2 c =
-    let b = c .before .before .before .before .before .before .before .before in
-    let s = b .before .before .before .before .before .before in
-    let a = s .args in
-    let p = b .before .before .before .plans-refusal in
-    let begun = subst (λ (k : ℕ). Opened (a .n) (a .g) (a .r) k (p .result) (a .out .now) (b .begin .last .1 .1 .1 .1 .1 .0) (b .begin .result .number) (b .begin .result .count)) (b .before .before .count-of .ensures) (b .begin .ensures) in
-    let most = plans-most (a .n) (a .g) (a .r) (a .plans .now) in
-    let e = c .before .before .before .before .if1 .left in
-    let z = refusal-none (a .n) (length (a .plans .now) / a .n) (p .result) (length (a .out .now)) (b .begin .result .number) e (begun .refusal) .plans in
-    let ok = plans-accepted (a .n) (a .g) (a .r) (a .plans .now) (subst (Lowest (wantedPlansFaults (a .n) (a .g) (a .r) (a .plans .now))) z (p .ensures)) in
-    let q = c .before .before .put-plans in
-    writes-book most (p .ensures) begun e
-    (plans-all (a .n) (a .g) (a .r) (a .plans .now) ok (b .begin .last .1 .1 .1 .1 .1 .0) (begun-room begun e) (q .ensures) refl)
+    let q = c .before .before in
+    let z = q .before .before in
+    let b = z .before .before .before .before in
+    let e = z .if1 .left in
+    let a = start b .args in
+    writes-book (plans-most (a .n) (a .g) (a .r) (a .plans .now)) (lowest b) (opened b) e
+    (plans-all (a .n) (a .g) (a .r) (a .plans .now) (accepted b e) (bytes b) (room b e) (q .put-plans .ensures) refl)
 
 pub write-book-spec : {M : Type 1} → statement M
 write-book-spec =
