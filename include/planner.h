@@ -1,39 +1,41 @@
 /* planner.h: regular two-level plans (regular two-level fractional factorial designs).
  *
- * Plans in their three forms, words, columns and run tables; their pattern, resolution, distance counts and aberration; whether two plans
- * are the same; smallest forms; catalogues; books. For C and C++. Link with libplanner.a (pkg-config planner); it needs nothing but memcpy and
- * memset. The functions have no state: they allocate nothing, keep no pointer, read and write nothing but the lists of the call, and may be
- * called from several threads at once. Every call ends and answers, whatever its numbers and lists hold.
+ * The calls are on plans in their three forms, which are words, columns and run tables. They answer the pattern, resolution, distance counts
+ * and aberration of plans, whether two plans are the same, smallest forms (canonical forms), catalogues and books. For C and C++.
  *
- * SIZES. N is the number of factors, 1 to 16; G the number of generators, below N; M = N - G the number of basic factors, at most 7.
+ * Link with libplanner.a (pkg-config planner). The library needs nothing but memcpy and memset. The functions have no state: they allocate
+ * nothing, keep no pointer, and read and write nothing but the lists of the call. They may be called from several threads at once. Every call
+ * ends and answers, whatever its numbers and lists hold.
+ *
+ * SIZES. N is the number of factors, 1 to 16. G is the number of generators, below N. M = N - G is the number of basic factors, at most 7.
  *
  * FORMS. Factor A is bit 0 of a word and of a run. The letters are A to H, then J to Q.
- *   words    G numbers of 16 bits: bit f says that factor f is in the word. They generate the plan in which every word meets every run in
- *            an even number of low levels.
- *   columns  N bytes, each from 1 to 2^M - 1: bit i says that basic factor i enters the factor. In run j a factor is low if j and its
- *            column share an odd number of bits.
- *   runs     2^M different numbers of 16 bits: bit f is 1 where factor f is low (-), 0 where it is high (+). The exclusive-or of any three
- *            runs is a run. Any order, and any factor's levels may be switched.
+ *   words    G numbers of 16 bits. Bit f says that factor f is in the word. The words generate the plan in which every word meets every run
+ *            in an even number of low levels.
+ *   columns  N bytes, each from 1 to 2^M - 1. Bit i says that basic factor i enters the factor. In run j a factor is low if j and its column
+ *            share an odd number of bits.
+ *   runs     2^M different numbers of 16 bits. Bit f is 1 where factor f is low (-), 0 where it is high (+). The exclusive-or of any three
+ *            runs is a run. The runs may stand in any order, and the levels of any factor may be switched.
  *
- * LISTS. A list goes as a pointer and then its count of elements (not of bytes), which the caller answers for. A list of 0 elements may have
- * any pointer, NULL too. Lists that a call reads stay as they are, and may be one and the same.
+ * LISTS. A list goes as a pointer and then its count of elements (not of bytes). The caller answers for the count. A list of 0 elements may
+ * have any pointer, NULL too. Lists that a call reads stay as they are. Two of them may be one and the same list.
  *
- * LENT LISTS. A result is written to a list that the caller lends, with at least as many places as are named at the call. An accepted call
- * fills these places, from the first, and leaves any places past them untouched; two plans that are different have no witness, whose list stays
- * untouched. A refused call leaves every lent list untouched (PLAN_REFUSED_ROOM of a catalogue apart). A lent list must not overlap another list
- * of the call.
+ * LENT LISTS. A result is written to a list that the caller lends. The list has at least as many places as are named at the call. An accepted
+ * call fills these places, from the first, and leaves any places past them untouched. Two plans that are different have no witness: then the
+ * witness list stays untouched. A refused call leaves every lent list untouched, except by PLAN_REFUSED_ROOM of a catalogue. A lent list must
+ * not overlap another list of the call.
  *
- * ANSWERS. PLAN_ACCEPTED, or else the lowest number below that applies, over all arguments. The calls that answer more say so. */
+ * ANSWERS. A call answers PLAN_ACCEPTED, or else the lowest number below that applies, over all arguments. The calls that answer more say so. */
 #ifndef PLANNER_H
 #define PLANNER_H
 
 #include <stddef.h>
 #include <stdint.h>
 
-#define PLANNER_VERSION "0.1.0"
+#define PLANNER_VERSION "0.2.0"
 
-/* The most factors, basic factors and runs that a plan may have: enough places for any list that a call on one or two plans fills, with one
- * more than PLAN_FACTORS for distance counts. Catalogues, books and several plans need more. */
+/* The most factors, basic factors and runs that a plan may have. So many places are enough for any list that a call on one or two plans fills.
+ * Distance counts need one more than PLAN_FACTORS. Catalogues, books and several plans need more. */
 #define PLAN_FACTORS 16
 #define PLAN_BASIC_FACTORS 7
 #define PLAN_RUNS 128
@@ -46,14 +48,14 @@
 #define PLAN_REFUSED_GENERATORS 2
 /* R is outside 3 to 16. Only plan_catalogue and plan_write_book. */
 #define PLAN_REFUSED_RESOLUTION 3
-/* A list has not G words, N columns (several plans: a multiple of N) or 2^M runs; or a book is to have more than 65,535 plans. */
+/* A list does not have G words, N columns (several plans: a multiple of N) or 2^M runs; or a book is to have more than 65,535 plans. */
 #define PLAN_REFUSED_COUNT 4
-/* A column above 2^M - 1, or a bit past factor N in a word or a run. */
+/* A column is above 2^M - 1, or a word or a run has a bit past factor N. */
 #define PLAN_REFUSED_RANGE 5
-/* Words that are dependent (a word 0 among them), columns of rank below M, runs that are repeated or not regular. */
+/* The words are dependent (a word 0 is), the columns have a rank below M, or the runs are repeated or not regular. */
 #define PLAN_REFUSED_DEPENDENT 6
-/* A word of the plan, products of generators included, of fewer than three letters, or than R where it is taken with a plan. A column 0 or
- * repeated gives one. */
+/* A word of the plan has fewer than three letters, or fewer than R where a call takes R with plans. The products of generators are words too.
+ * A column that is 0 or repeated gives such a word. */
 #define PLAN_REFUSED_SHORT_WORD 7
 /* A lent list has fewer places than its result. */
 #define PLAN_REFUSED_PLACES 8
@@ -64,14 +66,15 @@
 extern "C" {
 #endif
 
-/* The standard columns of the plan that the words generate: going through the factors from A, one that is the last letter of no word
- * takes the next of 1, 2, 4 and so on; the others follow. N places. */
+/* The standard columns of the plan that the words generate. Go through the factors from A: a factor that is the last letter of no word takes
+ * the next of 1, 2, 4 and so on. The other columns follow. N places. */
 uint8_t plan_columns_of_words(size_t n, size_t g, const uint16_t *words, size_t word_count, uint8_t *columns, size_t places);
 
-/* The standard columns of the table with its first run switched to all high, so that their runs are the table's up to one mask. N places. */
+/* The standard columns of the table with its first run switched to all high. So the runs of these columns are the table's up to one mask. N
+ * places. */
 uint8_t plan_columns_of_runs(size_t n, size_t g, const uint16_t *runs, size_t run_count, uint8_t *columns, size_t places);
 
-/* The reduced words of the columns' plan: by rising last letter, and no other word's last letter stands in a word. G places. */
+/* The reduced words of the columns' plan, by rising last letter. The last letter of a word stands in no other word. G places. */
 uint8_t plan_words_of_columns(size_t n, size_t g, const uint8_t *columns, size_t column_count, uint16_t *words, size_t places);
 
 /* The runs of these columns, run j at place j, from 0. 2^M places. */
@@ -80,36 +83,36 @@ uint8_t plan_runs_of_columns(size_t n, size_t g, const uint8_t *columns, size_t 
 /* The runs of the words' standard columns, run j at place j, from 0. 2^M places. */
 uint8_t plan_runs_of_words(size_t n, size_t g, const uint16_t *words, size_t word_count, uint16_t *runs, size_t places);
 
-/* The pattern (word-length pattern): the number of words of each length from 1 to N, length L at place L - 1. N places. */
+/* The pattern (word-length pattern): the number of words of each length from 1 to N. Length L is at place L - 1. N places. */
 uint8_t plan_pattern_of_words(size_t n, size_t g, const uint16_t *words, size_t word_count, uint16_t *pattern, size_t places);
 uint8_t plan_pattern_of_columns(size_t n, size_t g, const uint8_t *columns, size_t column_count, uint16_t *pattern, size_t places);
 uint8_t plan_pattern_of_runs(size_t n, size_t g, const uint16_t *runs, size_t run_count, uint16_t *pattern, size_t places);
 
-/* The resolution: the shortest word's length; 0 for a full factorial (G = 0), which has no words. 1 place. */
+/* The resolution: the length of the shortest word. It is 0 for a full factorial (G = 0), which has no words. 1 place. */
 uint8_t plan_resolution_of_words(size_t n, size_t g, const uint16_t *words, size_t word_count, uint8_t *resolution, size_t places);
 uint8_t plan_resolution_of_columns(size_t n, size_t g, const uint8_t *columns, size_t column_count, uint8_t *resolution, size_t places);
 uint8_t plan_resolution_of_runs(size_t n, size_t g, const uint16_t *runs, size_t run_count, uint8_t *resolution, size_t places);
 
-/* The distance counts: how many runs differ from the first run in exactly i factors, for i from 0 to N, at place i. N + 1 places. */
+/* The distance counts, for i from 0 to N: place i has how many runs differ from the first run in exactly i factors. N + 1 places. */
 uint8_t plan_distances_of_words(size_t n, size_t g, const uint16_t *words, size_t word_count, uint16_t *counts, size_t places);
 uint8_t plan_distances_of_columns(size_t n, size_t g, const uint8_t *columns, size_t column_count, uint16_t *counts, size_t places);
 uint8_t plan_distances_of_runs(size_t n, size_t g, const uint16_t *runs, size_t run_count, uint16_t *counts, size_t places);
 
-/* The number under which plan_less_aberration refuses these two lists of words, PLAN_ACCEPTED if it does not. It lends no list. */
+/* The number under which plan_less_aberration refuses these two lists of words, or PLAN_ACCEPTED if it accepts them. No list is lent. */
 uint8_t plan_aberration_refusal(size_t n, size_t g, const uint16_t *first, size_t first_count, const uint16_t *second, size_t second_count);
 
-/* Which of two plans of one N and G, given by words, has less aberration: patterns are compared from length 3 up to length M, and at the
- * first length that differs the smaller count is better. Answers 1 for the first list, also if neither is better, 2 for the second, and 0 if
- * refused. */
+/* Which of two plans of one N and G, given by words, has less aberration. The patterns are compared from length 3 up to length M. At the first
+ * length that differs the smaller count is better. The answer is 1 for the first list, 2 for the second, and 0 if refused. It is also 1 if
+ * neither is better. */
 uint8_t plan_less_aberration(size_t n, size_t g, const uint16_t *first, size_t first_count, const uint16_t *second, size_t second_count);
 
-/* The comparison of two plans of one N and G. They are the same if renaming the factors and switching the levels of some of them turns one
- * set of runs into the other; the order of runs plays no part. The answer's kind and value are
- *   PLAN_SAME, mask         the same; the witness list's first N places hold the names: factor f of the first plan becomes factor witness[f]
- *                           of the second, each of 0 to N - 1 being used once, and then the factors in the mask, which are the second
- *                           plan's, are switched
- *   PLAN_DIFFERENT, length  different; the first length where the patterns differ, 0 if they agree; the witness list is untouched
- *   PLAN_REFUSED, number    refused; the witness list is untouched
+/* The comparison of two plans of one N and G. They are the same (isomorphic) if renaming the factors and switching the levels of some of them
+ * turns one set of runs into the other. The order of runs plays no part. The answer's kind and value are
+ *   PLAN_SAME, mask         the same. The first N places of the witness list hold the names: factor f of the first plan becomes factor
+ *                           witness[f] of the second. Each of 0 to N - 1 is used once. Then the factors in the mask are switched. They are
+ *                           factors of the second plan
+ *   PLAN_DIFFERENT, length  different. The length is the first where the patterns differ, 0 if they agree. The witness list is untouched
+ *   PLAN_REFUSED, number    refused. The witness list is untouched
  * The witness list needs N places even if the plans are different. */
 #define PLAN_REFUSED UINT32_C(0)
 #define PLAN_SAME UINT32_C(0x10000)
@@ -118,18 +121,18 @@ uint8_t plan_less_aberration(size_t n, size_t g, const uint16_t *first, size_t f
 #define PLAN_KIND(answer) ((answer) & UINT32_C(0x30000))
 #define PLAN_VALUE(answer) ((answer) & UINT32_C(0xffff))
 
-/* .. of two plans given by columns. The mask is always 0. */
+/* The comparison of two plans given by columns. The mask is always 0. */
 uint32_t plan_compare_columns(size_t n, size_t g, const uint8_t *first, size_t first_count, const uint8_t *second, size_t second_count,
                               uint8_t *witness, size_t places);
 
-/* .. of two plans given by run tables, in any order of runs and with any levels switched. */
+/* The comparison of two plans given by run tables. The runs may stand in any order, and any levels may be switched. */
 uint32_t plan_compare_runs(size_t n, size_t g, const uint16_t *first, size_t first_count, const uint16_t *second, size_t second_count,
                            uint8_t *witness, size_t places);
 
-/* The check of a claimed witness between two run tables. Answers
- *   PLAN_YES  there are N names, from 0 to N - 1 and each once, no bit of the mask is past factor N, and renaming and then switching turns
- *             the first set of runs into the second
- *   PLAN_NO   anything else: any list of names, of any length, and any mask may be claimed
+/* The check of a claimed witness between two run tables. Any list of names, of any length, and any mask may be claimed. The answer is
+ *   PLAN_YES  there are N names, from 0 to N - 1 and each once; no bit of the mask is past factor N; and renaming and then switching turns the
+ *             first set of runs into the second
+ *   PLAN_NO   anything else
  * or, of the kind PLAN_REFUSED, the number under which a table is refused. */
 #define PLAN_YES UINT32_C(0x10000)
 #define PLAN_NO UINT32_C(0x20000)
@@ -137,19 +140,20 @@ uint32_t plan_compare_runs(size_t n, size_t g, const uint16_t *first, size_t fir
 uint32_t plan_check_witness(size_t n, size_t g, const uint16_t *first, size_t first_count, const uint16_t *second, size_t second_count,
                             const uint8_t *names, size_t name_count, uint16_t mask);
 
-/* The smallest form of a plan: among all lists of N rising columns of rank M whose plan is the same as this one, the list that has the smaller
- * column where it first differs from any other. Two plans of one N and G are the same exactly if their smallest forms are equal. The plan goes
- * as its columns or as a run table.
- *   list      plans that it is looked for in, such as a catalogue: their columns one plan after another, N bytes each; may be empty
+/* The smallest form (canonical form) of a plan. Take all lists of N rising columns of rank M whose plan is the same as this one. The smallest
+ * form is the list that has the smaller column where it first differs from any other. Two plans of one N and G are the same exactly if their
+ * smallest forms are equal. The plan goes as its columns or as a run table.
+ *   list      the plans among which the form is looked for, such as a catalogue. Their columns stand one plan after another, N bytes each. The
+ *             list may be empty
  *   smallest  lent, N places: the columns of the smallest form, rising
- *   witness   lent, N places: factor f of the given plan becomes factor witness[f] of the smallest form, each of 0 to N - 1 being used once
- * The answer tells of the form:
- *   number    PLAN_ACCEPTED or the refusal; a refused call answers mask 0 and place 0
- *   mask      the factors of the smallest form whose levels are switched after renaming; always 0 for columns
- *   place     the first place of the smallest form in the list, from 1; 0 if it is absent
- * Renaming and then switching turn the given plan's set of runs into that of the smallest form. The list is refused as a plan is:
- * PLAN_REFUSED_COUNT if its count is no multiple of N, PLAN_REFUSED_RANGE, _DEPENDENT or _SHORT_WORD for a fault of some plan in it.
- * PLAN_REFUSED_PLACES if either lent list has fewer than N places. */
+ *   witness   lent, N places: factor f of the given plan becomes factor witness[f] of the smallest form. Each of 0 to N - 1 is used once
+ * The answer is
+ *   number    PLAN_ACCEPTED or the refusal. A refused call answers mask 0 and place 0
+ *   mask      the factors of the smallest form whose levels are switched after renaming. Always 0 for columns
+ *   place     the first place of the smallest form in the list, from 1. 0 if it is absent
+ * Renaming and then switching turns the given plan's set of runs into that of the smallest form. The list is refused as a plan is. It is
+ * PLAN_REFUSED_COUNT if its count is no multiple of N. It is PLAN_REFUSED_RANGE, _DEPENDENT or _SHORT_WORD for a fault of some plan in it. The
+ * call is PLAN_REFUSED_PLACES if either lent list has fewer than N places. */
 struct plan_form {
     uint8_t number;
     uint16_t mask;
@@ -162,24 +166,24 @@ struct plan_form plan_smallest_of_columns(size_t n, size_t g, const uint8_t *col
 struct plan_form plan_smallest_of_runs(size_t n, size_t g, const uint16_t *runs, size_t run_count, const uint8_t *list, size_t list_count,
                                        uint8_t *smallest, size_t smallest_places, uint8_t *witness, size_t witness_places);
 
-/* The smallest forms of several plans in one call: their columns one plan after another, N bytes each, plan_count bytes in all.
+/* The smallest forms of several plans in one call. Their columns stand one plan after another, N bytes each, plan_count bytes in all.
  *   forms      lent, plan_count places: the smallest form of each plan, at the places of the plan
  *   witnesses  lent, plan_count places: the names of the witness from each plan to its smallest form, as above, at the places of the plan
- * PLAN_REFUSED_COUNT if plan_count is no multiple of N; PLAN_REFUSED_PLACES if either lent list has fewer than plan_count places; the lowest
- * number over all the plans. */
+ * The answer is the lowest number over all the plans. It is PLAN_REFUSED_COUNT if plan_count is no multiple of N, and PLAN_REFUSED_PLACES if
+ * either lent list has fewer than plan_count places. */
 uint8_t plan_smallest_of_plans(size_t n, size_t g, const uint8_t *plans, size_t plan_count, uint8_t *forms, size_t form_places,
                                uint8_t *witnesses, size_t witness_places);
 
-/* The catalogue for N, G and R: every smallest form of N factors and G generators whose words all have at least R letters (a full factorial
- * has none), in dictionary order: the earlier of two entries has the smaller column where they first differ. So each plan of this size
- * without a word below R is the same as exactly one entry. The lent list takes the entries one after another, N bytes each: it has room for
- * places / N of them, rounded down. The answer is a number and how many entries the list holds:
- *   PLAN_ACCEPTED            all of them, 0 if there is none; the places past them are untouched
- *   PLAN_REFUSED_ROOM        the first ones, as many as there is room for; any bytes past them are untouched
+/* The catalogue for N, G and R. It holds every smallest form of N factors and G generators whose words all have at least R letters. A full
+ * factorial has no words. The entries stand in dictionary order: the earlier of two entries has the smaller column where they first differ. So
+ * each plan of this size without a word below R is the same as exactly one entry. The lent list takes the entries one after another, N bytes
+ * each. It has room for places / N of them, rounded down. The answer is a number and how many entries the list holds:
+ *   PLAN_ACCEPTED            all of them, 0 if there is none. The places past them are untouched
+ *   PLAN_REFUSED_ROOM        the first ones, as many as there is room for. Any bytes past them are untouched
  *   PLAN_REFUSED_FACTORS,
  *   PLAN_REFUSED_GENERATORS,
- *   PLAN_REFUSED_RESOLUTION  0; the list is untouched
- * The largest catalogue, N 16, G 9, R 3, has 745,413 entries and takes some five seconds; most take milliseconds. */
+ *   PLAN_REFUSED_RESOLUTION  0. The list is untouched
+ * The largest catalogue, N 16, G 9, R 3, has 745,413 entries and takes some five seconds. Most catalogues take milliseconds. */
 struct plan_entries {
     uint8_t number;
     size_t count;
@@ -187,17 +191,17 @@ struct plan_entries {
 
 struct plan_entries plan_catalogue(size_t n, size_t g, size_t r, uint8_t *columns, size_t places);
 
-/* The book of several plans, in the order given: their columns one plan after another, N bytes each. A book is records, each a byte of kind
- * and a body whose length the kind fixes; numbers of 16 bits stand low byte first:
+/* The book of several plans, in the order given. Their columns stand one plan after another, N bytes each. A book is a row of records. A record
+ * is a byte of kind, then a body whose length the kind fixes. Numbers of 16 bits stand low byte first:
  *   0x01      N, G, R, then the count of plans in 16 bits
  *   0x20 + N  the N columns of a plan as they are given
- *   0x40 + N  the number of its words of each length from 3 to N, 16 bits each; nothing for N below 3
- * One 0x01 comes first, then for each plan its two records: PLAN_BOOK_HEAD bytes, and PLAN_BOOK_ENTRY(N) a plan. The answer is a number and
- * how many bytes of the lent list the book takes, 0 if refused:
+ *   0x40 + N  the number of its words of each length from 3 to N, 16 bits each. Nothing for N below 3
+ * One 0x01 comes first, then for each plan its two records. That is PLAN_BOOK_HEAD bytes, and PLAN_BOOK_ENTRY(N) bytes a plan. The answer is a
+ * number and how many bytes of the lent list the book takes, 0 if refused:
  *   PLAN_REFUSED_COUNT       plan_count is no multiple of N, or there are more than 65,535 plans
- *   PLAN_REFUSED_SHORT_WORD  some plan has a word of fewer than R letters, or a column 0 or repeated
+ *   PLAN_REFUSED_SHORT_WORD  some plan has a word of fewer than R letters, or a column that is 0 or repeated
  *   PLAN_REFUSED_PLACES      the lent list is shorter than the book
- * and the other numbers up to PLAN_REFUSED_DEPENDENT as everywhere. */
+ * The other numbers up to PLAN_REFUSED_DEPENDENT are as everywhere. */
 #define PLAN_BOOK_HEAD 6
 #define PLAN_BOOK_ENTRY(n) ((n) < 3 ? (n) + 2 : 3 * (n) - 2)
 
