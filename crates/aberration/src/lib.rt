@@ -9,6 +9,7 @@ ghost use Rattle.regular.specs.Given.{ofWords};
 ghost use Rattle.regular.specs.Measures.{ChoosesLess, HandsBackLess};
 ghost use Rattle.admission.specs.Admission.{Ready};
 use admission::lower_of;
+use regular::FACTORS;
 
 // The last length at which patterns are compared.
 fn last_length(n: usize, g: usize) -> usize
@@ -19,7 +20,7 @@ fn last_length(n: usize, g: usize) -> usize
 }
 
 // Whether the plan of the second standard columns has less aberration than that of the first.
-fn second_less(n: usize, g: usize, first: [u8; 16], second: [u8; 16]) -> bool
+fn second_less(n: usize, g: usize, first: [u8; FACTORS], second: [u8; FACTORS]) -> bool
     requires { ⌜ Ready n g first × Ready n g second ⌝ }
     ensures { λ r. ⌜ Tells r (LessAberration n (n - g) (planOf n (n - g) second) (planOf n (n - g) first))
         (LessAberration n (n - g) (planOf n (n - g) second) (planOf n (n - g) first) → ⊥) ⌝ }

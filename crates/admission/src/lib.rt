@@ -12,7 +12,9 @@ ghost use Rattle.admission.specs.Admission.{Admission, Columned};
 use bits::as_index;
 use bits::power;
 use regular::Admitted;
+use regular::BASICS;
 use regular::Design;
+use regular::FACTORS;
 
 // 1 or 2 if the sizes are out of bounds, else 0.
 fn size_number(n: usize, g: usize) -> u8
@@ -21,13 +23,13 @@ fn size_number(n: usize, g: usize) -> u8
     if n < 1 {
         return 1;
     }
-    if 16 < n {
+    if FACTORS < n {
         return 1;
     }
     if n <= g {
         return 2;
     }
-    if 7 < n - g {
+    if BASICS < n - g {
         return 2;
     }
     0
@@ -44,7 +46,7 @@ pub fn bounds_number(n: usize, g: usize, r: usize) -> u8
     if r < 3 {
         return 3;
     }
-    if 16 < r {
+    if FACTORS < r {
         return 3;
     }
     0
@@ -73,7 +75,7 @@ fn refused(number: u8) -> Admitted
     Admitted {
         number,
         run: 0,
-        columns: [0u8; 16],
+        columns: [0u8; FACTORS],
     }
 }
 
@@ -138,7 +140,7 @@ pub fn admit_runs(n: usize, g: usize, runs: &[u16]) -> Admitted
 }
 
 // Whether the first n columns are below `end`.
-fn columns_below(n: usize, end: usize, columns: [u8; 16]) -> bool
+fn columns_below(n: usize, end: usize, columns: [u8; FACTORS]) -> bool
     requires { ⌜ n ≤ 16 ⌝ }
     ensures { λ r. ⌜ (r ≡ true → ((f : ℕ) → f < n → getD columns f 0 < end)) × (r ≡ false → ((f : ℕ) × ((f < n) × (end ≤ getD columns f 0)))) ⌝ }
 {
@@ -153,7 +155,7 @@ fn columns_below(n: usize, end: usize, columns: [u8; 16]) -> bool
 }
 
 // Columns of sizes in bounds: 5, 6, 7, or their plan's standard columns.
-fn admit_array(n: usize, m: usize, columns: [u8; 16]) -> Admitted
+fn admit_array(n: usize, m: usize, columns: [u8; FACTORS]) -> Admitted
     requires { ⌜ (n ≤ 16) × (m ≤ 7) ⌝ }
     ensures { λ r. ⌜ Columned n m columns r ⌝ }
 {
@@ -176,12 +178,12 @@ fn admit_array(n: usize, m: usize, columns: [u8; 16]) -> Admitted
 }
 
 // Whether the places from n on are 0.
-fn unused_zero(n: usize, columns: [u8; 16]) -> bool
+fn unused_zero(n: usize, columns: [u8; FACTORS]) -> bool
     ensures { λ r. ⌜ (r ≡ true → ((f : ℕ) → n ≤ f → f < 16 → getD columns f 0 ≡ 0))
         × (r ≡ false → ((f : ℕ) × ((n ≤ f) × ((f < 16) × (getD columns f 0 ≡ 0 → ⊥))))) ⌝ }
 {
     let mut f = n;
-    while f < 16 {
+    while f < FACTORS {
         if columns[f] != 0 {
             return false;
         }
@@ -213,11 +215,11 @@ pub fn admit_design(n: usize, g: usize, design: Design) -> Admitted
 }
 
 // The bytes of a list as an array, zeros after them. Public for the call that lists runs, the book and the check of a witness.
-pub fn array_of(list: &[u8]) -> [u8; 16]
+pub fn array_of(list: &[u8]) -> [u8; FACTORS]
     requires { ⌜ length (now list) ≤ 16 ⌝ }
     ensures { λ r. ⌜ ((f : ℕ) → getD r f 0 ≡ getD (now (list .entry)) f 0) ⌝ }
 {
-    let mut columns = [0u8; 16];
+    let mut columns = [0u8; FACTORS];
     let mut f = 0;
     while f < list.len() {
         columns[f] = list[f];

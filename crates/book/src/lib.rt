@@ -17,6 +17,7 @@ use plan_layout::plan_at;
 use plan_layout::plan_count;
 use regular::BookAnswer;
 use regular::Design;
+use regular::FACTORS;
 
 // The kinds of records: 0x01 the header, 0x20 + n the columns of n factors, 0x40 + n their pattern.
 const HEADER_KIND: u8 = 1;
@@ -56,7 +57,7 @@ fn put_header(n: usize, g: usize, r: usize, count: usize, out: &mut [u8])
 }
 
 // The counts for lengths 3 to n; and the place after them.
-fn put_counts(n: usize, counts: [u16; 16], at: usize, out: &mut [u8]) -> usize
+fn put_counts(n: usize, counts: [u16; FACTORS], at: usize, out: &mut [u8]) -> usize
     requires { ⌜ (n ≤ 16) × (at + 2 * (n - 2) ≤ length (now out)) ⌝ }
     ensures { λ res. ⌜ (now (out .exit) ≡ over at (each (λ i. lowFirst (ofLength counts (3 + i))) (n - 2)) (now (out .entry)))
         × (res ≡ at + 2 * (n - 2)) ⌝ }
@@ -73,7 +74,13 @@ fn put_counts(n: usize, counts: [u16; 16], at: usize, out: &mut [u8]) -> usize
 }
 
 // An entry, its columns and its pattern; and the place after it.
-fn put_entry(n: usize, columns: [u8; 16], counts: [u16; 16], at: usize, out: &mut [u8]) -> usize
+fn put_entry(
+    n: usize,
+    columns: [u8; FACTORS],
+    counts: [u16; FACTORS],
+    at: usize,
+    out: &mut [u8],
+) -> usize
     requires { ⌜ (n ≤ 16) × (at + entryLength n ≤ length (now out)) ⌝ }
     ensures { λ res. ⌜ (now (out .exit) ≡ over at (entryRecords n columns counts) (now (out .entry))) × (res ≡ at + entryLength n) ⌝ }
 {
@@ -88,8 +95,8 @@ fn put_entry(n: usize, columns: [u8; 16], counts: [u16; 16], at: usize, out: &mu
 fn put_plan(
     n: usize,
     g: usize,
-    columns: [u8; 16],
-    standard: [u8; 16],
+    columns: [u8; FACTORS],
+    standard: [u8; FACTORS],
     at: usize,
     out: &mut [u8],
 ) -> usize

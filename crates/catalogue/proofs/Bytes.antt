@@ -14,13 +14,13 @@ use Rattle.regular.specs.Catalogues.{ListsBytes}
 use Rattle.regular.specs.PlanBytes.{planBytes, planStart, planAt, HasPlan, planCount}
 use Rattle.regular.specs.Smallest.{Equal}
 use Rattle.entries.specs.declared.WalkState.{WalkState}
-use Rattle.entries.specs.Tracing.{Followed}
+use Rattle.entries.specs.Tracing.{StateOf}
 use Rattle.plan_layout.specs.Places.{start-first, start-next, start-order, count-held, held-count}
 use Rattle.plan_layout.specs.Put.{PlanPut}
 use Rattle.catalogue.specs.Turns.{NextFound, Stops, FillingBytes}
 use Rattle.catalogue.proofs.Turns.{with-entry, with-same, with-other, progress-none, progress-more, stopped}
 
-pub filling-none : (n g r : ℕ) (v c : List ℕ) (trail : WalkState) → Followed 0 [] trail → FillingBytes n g r v v 0 c trail
+pub filling-none : (n g r : ℕ) (v c : List ℕ) (trail : WalkState) → StateOf 0 [] trail → FillingBytes n g r v v 0 c trail
 filling-none n g r v c trail h = record {
   all = λ _. [];
   progress = progress-none n g r (λ _. []) c trail h;
@@ -62,7 +62,8 @@ module _ (n g r : ℕ) (v w : List ℕ) (i : ℕ) (c : List ℕ) (trail : WalkSt
   pub filling-stops : (number : ℕ) → Stops n g r i (ltb i places) c number → ListsBytes n g r v w number i
   filling-stops number s = record {
     catalogues = stopped n g r (λ k. planStart n k ≤ length v) (λ a b h l. omega (arith, l, start-order n b a h)) i (x .all) c trail
-        (x .progress) (x .room) (planAt n w) (x .entries) number (ltb i places) (λ z q l. omega (arith, e, ltb-false i places q, held-count n (length v) i (z .size .some) l)) s;
+        (x .progress) (x .room) (planAt n w) (x .entries) number (ltb i places)
+        (λ z q l. omega (arith, e, ltb-false i places q, held-count n (length v) i (z .size .some) l)) s;
     rest = x .rest;
     size = x .size;
   }

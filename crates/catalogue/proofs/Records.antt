@@ -15,7 +15,7 @@ use Rattle.regular.specs.Designs.{designOf, blank}
 use Rattle.regular.specs.declared.Design.{Design}
 use Rattle.regular.specs.Smallest.{Entry}
 use Rattle.entries.specs.declared.WalkState.{WalkState}
-use Rattle.entries.specs.Tracing.{Followed}
+use Rattle.entries.specs.Tracing.{StateOf}
 use Rattle.catalogue.specs.declared.NextStop.{NextStop}
 use Rattle.catalogue.specs.declared.Stop.{Stop}
 use Rattle.regular.specs.Catalogues.{ListsDesigns}
@@ -33,7 +33,8 @@ fails false _ = refl
 
 -- what a turn answers
 module _ (n g r i len : ℕ) (c : Stop) where
-  pub stepped-stops : (found : Bool) (number : ℕ) (d : List ℕ) (w : WalkState) → Turned n g r i (ltb i len) (c .design .columns) found number d w → found ≡ false
+  pub stepped-stops : (found : Bool) (number : ℕ) (d : List ℕ) (w : WalkState) → Turned n g r i (ltb i len) (c .design .columns) found number d w
+      → found ≡ false
       → StepAnswers n g r i len c (record { found = false; stop = c; answer = record { number = number; count = i } })
   stepped-stops found number d w t e = record {
     goes = λ q. absurd (clash q refl);
@@ -56,7 +57,7 @@ module _ (n g r i len : ℕ) (c : Stop) where
   })
 
 -- the loop
-pub listing-none : (n g r : ℕ) (ys : List Design) (c : Stop) → Followed 0 [] (c .trail) → FillingRecords n g r ys ys 0 c
+pub listing-none : (n g r : ℕ) (ys : List Design) (c : Stop) → StateOf 0 [] (c .trail) → FillingRecords n g r ys ys 0 c
 listing-none n g r ys c h = record {
   all = λ _. [];
   progress = progress-none n g r (λ _. []) (c .design .columns) (c .trail) h;
@@ -67,7 +68,8 @@ listing-none n g r ys c h = record {
   rest = refl;
 }
 
-module _ (n g r : ℕ) (ys zs : List Design) (i : ℕ) (c : Stop) (x : FillingRecords n g r ys zs i c) (s : NextStop) (t : StepAnswers n g r i (length ys) c s) where
+module _ (n g r : ℕ) (ys zs : List Design) (i : ℕ) (c : Stop) (x : FillingRecords n g r ys zs i c) (s : NextStop)
+    (t : StepAnswers n g r i (length ys) c s) where
   pub listing-room : s .found ≡ true → i < length ys
   listing-room e = ltb-true i (length ys) (t .goes e .room)
 
@@ -84,7 +86,8 @@ module _ (n g r : ℕ) (ys zs : List Design) (i : ℕ) (c : Stop) (x : FillingRe
         room = omega arith;
         size = length-set zs i d ∙ x .size;
         entries = λ j l. by-cases (ℕ-discrete j i)
-            (λ q. subst (λ (k : ℕ). with-entry (x .all) i (d .columns) k ≡ getD zs' k blank .columns) (sym q) (with-same (x .all) i (d .columns) ∙ ap (λ (y : Design). y .columns) (sym new)))
+            (λ q. subst (λ (k : ℕ). with-entry (x .all) i (d .columns) k ≡ getD zs' k blank .columns) (sym q)
+            (with-same (x .all) i (d .columns) ∙ ap (λ (y : Design). y .columns) (sym new)))
             (λ ne. with-other (x .all) i (d .columns) j ne ∙ x .entries j (omega arith) ∙ ap (λ (y : Design). y .columns) (sym (old j ne)));
         heads = λ j l. by-cases (ℕ-discrete j i)
             (λ q. subst (λ (k : ℕ). Head n (n - g) (getD zs' k blank)) (sym q) (subst (λ (y : Design). Head n (n - g) y) (sym new) (t .head e)))
@@ -94,8 +97,10 @@ module _ (n g r : ℕ) (ys zs : List Design) (i : ℕ) (c : Stop) (x : FillingRe
 
   pub listing-stops : s .found ≡ false → ListsDesigns n g r ys zs (s .answer .number) (s .answer .count)
   listing-stops e = subst (λ (k : ℕ). ListsDesigns n g r ys zs (s .answer .number) k) (sym (t .count)) (record {
-    catalogues = stopped n g r (λ k. k ≤ length ys) (λ a b h l. omega arith) i (x .all) (c .design .columns) (c .trail) (x .progress) (x .room) (λ j. getD zs j blank .columns)
-        (λ j h f l. ap (λ (y : List ℕ). getD y f 0) (x .entries j h)) (s .answer .number) (ltb i (length ys)) (λ _ q l. omega (arith, ltb-false i (length ys) q)) (t .stops e);
+    catalogues = stopped n g r (λ k. k ≤ length ys) (λ a b h l. omega arith) i (x .all) (c .design .columns) (c .trail) (x .progress) (x .room)
+        (λ j. getD zs j blank .columns)
+        (λ j h f l. ap (λ (y : List ℕ). getD y f 0) (x .entries j h)) (s .answer .number) (ltb i (length ys))
+        (λ _ q l. omega (arith, ltb-false i (length ys) q)) (t .stops e);
     records = λ j h.
         let b = x .progress .begun j h .held in
         let q = x .entries j h in

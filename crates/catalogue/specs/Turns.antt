@@ -9,10 +9,10 @@ use Rattle.regular.specs.PlanBytes.{planStart, planAt}
 use Rattle.regular.specs.Refusals.{Lowest, sizeFaults}
 use Rattle.regular.specs.Smallest.{Equal, Entry}
 use Rattle.smallest_laws.specs.Value.{value}
-use Rattle.catalogue_laws.specs.Steps.{Held, First, bound}
+use Rattle.catalogue_laws.specs.Steps.{EntryHeld, FirstEntry, bound}
 use Rattle.catalogue_laws.specs.Walked.{Begun, edge}
 use Rattle.entries.specs.declared.WalkState.{WalkState}
-use Rattle.entries.specs.Tracing.{Followed}
+use Rattle.entries.specs.Tracing.{StateOf}
 use Rattle.regular.specs.Sizes.{Sized}
 
 -- where the search for the i-th entry starts, c being the one before it
@@ -22,21 +22,21 @@ from i n c = bound (ltb 0 i) n c
 -- before every turn but the first, c is an entry, to which the trail leads; before the first the trail is that of no column
 pub record WalkAt (n g r i : ℕ) (c : List ℕ) (trail : WalkState) : Type 0 where
   pub sized : ltb 0 i ≡ true → Sized n g r
-  pub held : ltb 0 i ≡ true → Held n (n - g) r c × Followed (n - 1) c trail
-  pub start : ltb 0 i ≡ false → Followed 0 [] trail
+  pub held : ltb 0 i ≡ true → EntryHeld n (n - g) r c × StateOf (n - 1) c trail
+  pub start : ltb 0 i ≡ false → StateOf 0 [] trail
 
 -- d is the next entry, and has room; the trail leads to it
 pub record NextFound (n g r i : ℕ) (left : Bool) (c d : List ℕ) (trail : WalkState) : Type 0 where
   pub room : left ≡ true
   pub sized : Sized n g r
-  pub first : First n (n - g) r (from i n c) d
-  pub followed : Followed (n - 1) d trail
+  pub first : FirstEntry n (n - g) r (from i n c) d
+  pub followed : StateOf (n - 1) d trail
 
 -- the sizes are refused; or no entry is left; or one is left and has no room
 pub data Stops (n g r i : ℕ) (room : Bool) (c : List ℕ) : ℕ → Type 0 where
   refused : (k : ℕ) → 0 < k → k ≤ 3 → Lowest (sizeFaults n g r) k → Stops n g r i room c k
   ended : Sized n g r → ((e : List ℕ) → Entry n (n - g) r e → from i n c ≤ value n e → ⊥) → Stops n g r i room c 0
-  full : Sized n g r → room ≡ false → (d : List ℕ) → First n (n - g) r (from i n c) d → Stops n g r i room c 9
+  full : Sized n g r → room ≡ false → (d : List ℕ) → FirstEntry n (n - g) r (from i n c) d → Stops n g r i room c 9
 
 pub record Turned (n g r i : ℕ) (room : Bool) (c : List ℕ) (found : Bool) (number : ℕ) (d : List ℕ) (trail : WalkState) : Type 0 where
   pub goes : found ≡ true → NextFound n g r i room c d trail

@@ -2,7 +2,7 @@
 ghost use mathlib.Core.Path.{_≡_};
 ghost use mathlib.Core.List.{[]};
 ghost use Rattle.regular.specs.Designs.{blank};
-ghost use Rattle.entries.specs.Tracing.{Followed};
+ghost use Rattle.entries.specs.Tracing.{StateOf};
 ghost use Rattle.catalogue.specs.Turns.{WalkAt, Turned};
 ghost use Rattle.catalogue.specs.Records.{StepAnswers};
 ghost use Rattle.regular.specs.Catalogues.{ListsBytes, ListsDesigns};
@@ -15,12 +15,13 @@ use plan_layout::plan_count;
 use plan_layout::put_plan;
 use regular::CatalogueAnswer;
 use regular::Design;
+use regular::FACTORS;
 
 // What a turn finds: the next entry's columns and trail, or the answer's number.
 struct Turn {
     found: bool,
     number: u8,
-    columns: [u8; 16],
+    columns: [u8; FACTORS],
     trail: WalkState,
 }
 
@@ -31,7 +32,7 @@ fn advance(
     r: usize,
     i: usize,
     room: bool,
-    c: [u8; 16],
+    c: [u8; FACTORS],
     trail: WalkState,
 ) -> Turn
     requires { ⌜ WalkAt n g r i c trail ⌝ }
@@ -79,7 +80,7 @@ pub fn list_catalogue(n: usize, g: usize, r: usize, out: &mut [u8]) -> Catalogue
     ensures { λ res. ⌜ ListsBytes n g r (now (out .entry)) (now (out .exit)) (res .number) (res .count) ⌝ }
 {
     let places = plan_count(n, out.len());
-    let mut c = [0u8; 16];
+    let mut c = [0u8; FACTORS];
     let mut trail = walk_start();
     let mut count: usize = 0;
     loop {
@@ -113,7 +114,7 @@ struct NextStop {
 
 // The place before the first.
 fn begin() -> Stop
-    ensures { λ res. ⌜ (res .design ≡ blank) × Followed 0 [] (res .trail) ⌝ }
+    ensures { λ res. ⌜ (res .design ≡ blank) × StateOf 0 [] (res .trail) ⌝ }
 {
     let design = blank_design();
     let trail = walk_start();

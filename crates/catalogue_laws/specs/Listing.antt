@@ -19,7 +19,7 @@ use Rattle.smallest_laws.specs.Dictionary.{equal-sym}
 use Rattle.smallest_laws.specs.Growth.{agree-entry, agree-left, entry-units, entry-none, next-rising, next-long, long-next}
 use Rattle.smallest_laws.specs.Prefix.{smallest-next}
 use Rattle.smallest_laws.specs.Search.{any-none, none-any, beaten, search-beats, search-smallest}
-use Rattle.catalogue_laws.specs.Model.{short, fits, may, choose, branch, listing, entries}
+use Rattle.catalogue_laws.specs.Model.{short, fits, may, keepIf, branch, listing, entries}
 use borrow.Author.Tests.{eqb-true, eq-eqb, leb-true, le-leb, ltb-true, lt-ltb, not-true}
 use Rattle.gf2.specs.Truth.{clash, told, and-both, both-and, false-not}
 
@@ -189,7 +189,7 @@ module _ (n m r : ℕ) where
           (entry-fits r k q was some above (agree-entry n m r e he q (suc k) w b))) h
 
   -- whole lists
-  ends : (p : List ℕ) (lo : ℕ) → Start p lo → length p ≡ n → (b : Bool) → eqb (unitsBefore p (length p)) m ≡ b → Rows p lo (choose b (p ∷ []))
+  ends : (p : List ℕ) (lo : ℕ) → Start p lo → length p ≡ n → (b : Bool) → eqb (unitsBefore p (length p)) m ≡ b → Rows p lo (keepIf b (p ∷ []))
   ends p lo s h true e =
       let w : Entry n m r p =
       subst (λ (i : ℕ). Entry i m r p) h (subst (λ (u : ℕ). Entry (length p) u r p) (eqb-true (unitsBefore p (length p)) m e) (s .entry)) in
@@ -248,7 +248,7 @@ module _ (n m r : ℕ) where
 
   picked : (p : List ℕ) (lo x : ℕ) (s : Start p lo) (g : lo ≤ x) (l : length p < n) (a b : List (List ℕ)) (rest : Rows p (suc x) b) (d : ℕ)
       → suc (length p) + d ≡ n → (t : Bool) → may m r d (length p) (p ++ x ∷ []) ≡ t
-      → (Start (p ++ x ∷ []) (suc x) → Rows (p ++ x ∷ []) (suc x) a) → Firsts p lo x s g l (choose t a) b rest
+      → (Start (p ++ x ∷ []) (suc x) → Rows (p ++ x ∷ []) (suc x) a) → Firsts p lo x s g l (keepIf t a) b rest
   picked p lo x s g l a b rest d z true h f =
       let w = f (started p x lo s g d h) in
       record { sound = w .sound; starts = w .starts; order = w .order; complete = λ e he q. w .complete e he q (goes-on p x e he q) }
@@ -272,7 +272,7 @@ module _ (n m r : ℕ) where
       let b = branch (may m r d (length p)) f p c (suc x) in
       let w : length p < n = omega arith in
       let rest = branched f p lo d s l g c (suc x) (omega arith) (omega arith) in
-      joined p lo x s h w (choose t a) b rest (picked p lo x s h w a b rest d l t refl (g x))
+      joined p lo x s h w (keepIf t a) b rest (picked p lo x s h w a b rest d l t refl (g x))
 
   lists : (d : ℕ) (p : List ℕ) (lo : ℕ) → length p + d ≡ n → Start p lo → Rows p lo (listing m r d p lo)
   unfolding listing

@@ -6,7 +6,7 @@ use Prim.Native.Nat.{ℕ, zero, suc, _≤_, _<_}
 use native.Mathlib.Decide.{ℕ-discrete, decLt}
 use native.Mathlib.Omega.{arith}
 use Rattle.regular.specs.Smallest.{Equal, Entry, Catalogue}
-use Rattle.catalogue_laws.specs.Steps.{First}
+use Rattle.catalogue_laws.specs.Steps.{FirstEntry}
 use Rattle.smallest_laws.specs.Value.{value, Bytes, value-same, digits, lt-before, before-lt}
 use Rattle.catalogue_laws.specs.Walk.{entry-bytes}
 
@@ -17,7 +17,7 @@ edge n entry (suc j) = suc (value n (entry j))
 
 -- the first entries, one after the other
 abbrev pub Begun : (n m r count : ℕ) (entry : ℕ → List ℕ) → Type 0
-Begun n m r count entry = (j : ℕ) → j < count → First n m r (edge n entry j) (entry j)
+Begun n m r count entry = (j : ℕ) → j < count → FirstEntry n m r (edge n entry j) (entry j)
 
 -- no entry is left
 abbrev pub Ended : (n m r count : ℕ) (entry : ℕ → List ℕ) → Type 0

@@ -19,11 +19,11 @@ use Rattle.gf2.specs.DigitLaws.{pow-twice}
 use Rattle.regular.specs.Columns.{runOf, RunTable}
 use Rattle.standard.specs.Form.{Repeat}
 use Rattle.standard.specs.Runs.{run-lt, run-zero, run-xor}
-use Rattle.column_forms.specs.Tables.{Held, Grown, Seen}
+use Rattle.column_forms.specs.Tables.{SumsHeld, SumsGrown, Seen}
 
 -- the tables of span doubling: one number more
 pub held-more : (F : ℕ → ℕ) (s v : ℕ) (sums places : List ℕ) → v ≡ F s → s < length sums → v < length places → ((i : ℕ) → i < s → F i ≡ F s → ⊥)
-    → Held F s sums places → Held F (s + 1) (set sums s v) (set places v (s + 1))
+    → SumsHeld F s sums places → SumsHeld F (s + 1) (set sums s v) (set places v (s + 1))
 held-more F s v sums places e ls lp fresh o =
     record {
       filled = λ i h. by-cases (ℕ-discrete i s)
@@ -40,7 +40,7 @@ held-more F s v sums places e ls lp fresh o =
     }
 
 -- .. the same numbers
-pub held-same : (F G : ℕ → ℕ) (s : ℕ) (sums places : List ℕ) → ((i : ℕ) → i < s → F i ≡ G i) → Held F s sums places → Held G s sums places
+pub held-same : (F G : ℕ → ℕ) (s : ℕ) (sums places : List ℕ) → ((i : ℕ) → i < s → F i ≡ G i) → SumsHeld F s sums places → SumsHeld G s sums places
 held-same F G s sums places h o =
     record {
       filled = λ i l. o .filled i l ∙ h i l;
@@ -48,7 +48,7 @@ held-same F G s sums places h o =
       only = λ v i e. let r = o .only v i e in (r .0, sym (h i (r .0)) ∙ r .1);
     }
 
-pub grown-none : (c half : ℕ) (s p : List ℕ) → Grown c half 0 s p s p
+pub grown-none : (c half : ℕ) (s p : List ℕ) → SumsGrown c half 0 s p s p
 grown-none c half s p =
     let e : half ≡ half + 0 = omega arith in
     record {
@@ -56,11 +56,11 @@ grown-none c half s p =
       wide = refl;
       last = λ i h. absurd (omega arith);
       kept = λ v h. refl;
-      held = λ F d h. subst (λ (x : ℕ). Held F x s p) e h;
+      held = λ F d h. subst (λ (x : ℕ). SumsHeld F x s p) e h;
     }
 
 pub grown-more : (c half k z : ℕ) (s p sums places : List ℕ) → k < half → half + k < length sums → z ≡ bitXor (getD sums k 0) c → z < length places
-    → Grown c half k s p sums places → Grown c half (k + 1) s p (set sums (half + k) (bitXor (getD sums k 0) c)) (set places z (half + k + 1))
+    → SumsGrown c half k s p sums places → SumsGrown c half (k + 1) s p (set sums (half + k) (bitXor (getD sums k 0) c)) (set places z (half + k + 1))
 grown-more c half k z s p sums places hk ls q lp g =
     let v = bitXor (getD sums k 0) c in
     let at : bitXor (getD s k 0) c ≡ z = ap (λ (x : ℕ). bitXor x c) (sym (g .doubling .low k hk)) ∙ sym q in
@@ -76,13 +76,13 @@ grown-more c half k z s p sums places hk ls q lp g =
           let o = g .held F d h in
           let e : v ≡ F (half + k) = ap (λ (x : ℕ). bitXor x c) (o .filled k (omega arith)) ∙ sym (d .next k hk) in
           let a : half + k + 1 ≡ half + (k + 1) = omega arith in
-          subst (λ (x : ℕ). Held F x (set sums (half + k) v) (set places z (half + k + 1))) a
-          (subst (λ (x : ℕ). Held F (half + k + 1) (set sums (half + k) v) (set places x (half + k + 1))) (sym q)
+          subst (λ (x : ℕ). SumsHeld F x (set sums (half + k) v) (set places z (half + k + 1))) a
+          (subst (λ (x : ℕ). SumsHeld F (half + k + 1) (set sums (half + k) v) (set places x (half + k + 1))) (sym q)
           (held-more F (half + k) v sums places e ls (omega arith) (λ i l t. omega (arith, d .once i (half + k) (omega arith) (omega arith) t)) o));
     }
 
-pub grown-all : (c half k : ℕ) (s p sums places : List ℕ) → k ≡ half → Grown c half k s p sums places → Grown c half half s p sums places
-grown-all c half k s p sums places e g = subst (λ (i : ℕ). Grown c half i s p sums places) e g
+pub grown-all : (c half k : ℕ) (s p sums places : List ℕ) → k ≡ half → SumsGrown c half k s p sums places → SumsGrown c half half s p sums places
+grown-all c half k s p sums places e g = subst (λ (i : ℕ). SumsGrown c half i s p sums places) e g
 
 -- the marks of columns
 pub seen-none : (c t : List ℕ) → t ≡ replicate 128 0 → Seen c 0 (set t 0 1)

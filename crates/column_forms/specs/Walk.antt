@@ -17,25 +17,25 @@ use Rattle.gf2.specs.Fill.{zeros, set-unused}
 use Rattle.regular.specs.Columns.{runOf, planOf, Below, Spans}
 use Rattle.regular.specs.Words.{total, Independent}
 use Rattle.standard.specs.Form.{unitsBefore, StandardFor}
-use Rattle.standard.specs.Finding.{Found, is-found, not-found}
+use Rattle.standard.specs.Finding.{StandardFound, is-found, not-found}
 use Rattle.standard.specs.Runs.{run-lt, total-lt}
 use Rattle.standard.specs.Total.{total-none, InSpan, span-at, span-total, independent-once}
 use Rattle.standard.specs.Units.{units-next, units-stay}
 use Rattle.standard.specs.NextColumn.{set-units, set-column, set-next}
 use Rattle.standard.specs.FromColumns.{independent-spans, runs-all}
-use Rattle.column_forms.specs.Tables.{Held, Doubles, Grown}
+use Rattle.column_forms.specs.Tables.{SumsHeld, Doubles, SumsGrown}
 use Rattle.column_forms.specs.TableLaws.{held-more, held-same}
 use Rattle.column_forms.specs.Basis.{independent-few, spans-many, more-old, more-new, more-low, more-high, more-unit, more-independent, run-through}
 
 -- after f of the n columns c: the basis has the columns that were no sum of those before them, in their order; sums holds what it reaches,
 -- half numbers, and places finds them again; a has the standard columns so far, each taken by the basis to the column of c
-pub record Walk (n m : ℕ) (c : List ℕ) (f half : ℕ) (sums places a : List ℕ) : Type 0 where
+pub record ColumnWalk (n m : ℕ) (c : List ℕ) (f half : ℕ) (sums places a : List ℕ) : Type 0 where
   pub basis : List ℕ
   pub rank : ℕ
   pub count : length basis ≡ rank
   pub size : half ≡ 2 ^ rank
   pub most : rank ≤ m
-  pub held : Held (total basis rank) half sums places
+  pub held : SumsHeld (total basis rank) half sums places
   pub reached : (i : ℕ) → i < rank → InSpan c n (getD basis i 0)
   pub units : unitsBefore a f ≡ rank
   pub next : (g : ℕ) → g < f → getD a g 0 ≤ 2 ^ unitsBefore a g
@@ -45,10 +45,10 @@ pub record Walk (n m : ℕ) (c : List ℕ) (f half : ℕ) (sums places a : List 
 -- no unit more where the next column is none
 
 -- nothing passed: the empty basis reaches 0
-pub walk-none : (n m : ℕ) (c : List ℕ) → Walk n m c 0 1 (replicate 128 0) (set (replicate 128 0) 0 1) (replicate 16 0)
+pub walk-none : (n m : ℕ) (c : List ℕ) → ColumnWalk n m c 0 1 (replicate 128 0) (set (replicate 128 0) 0 1) (replicate 16 0)
 unfolding unitsBefore total
 walk-none n m c =
-    let blank : Held (λ k. 0) 0 (replicate 128 0) (replicate 128 0) =
+    let blank : SumsHeld (λ k. 0) 0 (replicate 128 0) (replicate 128 0) =
     record { filled = λ i h. absurd (omega arith); back = λ i h. absurd (omega arith); only = λ v i e. absurd (omega (arith, zeros 128 v)) } in
     record {
       basis = [];
@@ -64,7 +64,7 @@ walk-none n m c =
       unused = λ g h. zeros 16 g;
     }
 
-module _ (n m : ℕ) (c : List ℕ) (f half : ℕ) (sums places a : List ℕ) (w : Walk n m c f half sums places a) where
+module _ (n m : ℕ) (c : List ℕ) (f half : ℕ) (sums places a : List ℕ) (w : ColumnWalk n m c f half sums places a) where
   -- no sum is taken twice
   basis-independent : Independent (w .rank) (w .basis)
   basis-independent s h e =
@@ -81,9 +81,9 @@ module _ (n m : ℕ) (c : List ℕ) (f half : ℕ) (sums places a : List ℕ) (w
   walk-sums b hm k h =
       omega (arith, w .held .filled k h, total-lt (w .basis) (w .rank) m k (basis-below b), pow-most m hm)
 
-module _ (n m : ℕ) (c : List ℕ) (f half : ℕ) (sums places a : List ℕ) (w : Walk n m c f half sums places a) (l : f < length a) where
+module _ (n m : ℕ) (c : List ℕ) (f half : ℕ) (sums places a : List ℕ) (w : ColumnWalk n m c f half sums places a) (l : f < length a) where
   -- the next column is a sum of the basis: its place is the standard column
-  pub walk-old : (z : ℕ) → z ≡ getD c f 0 → (getD places z 0 ≡ 0 → ⊥) → Walk n m c (f + 1) half sums places (set a f (getD places z 0 - 1))
+  pub walk-old : (z : ℕ) → z ≡ getD c f 0 → (getD places z 0 ≡ 0 → ⊥) → ColumnWalk n m c (f + 1) half sums places (set a f (getD places z 0 - 1))
   walk-old z is some =
       let i = getD places z 0 - 1 in
       let e : getD places (getD c f 0) 0 ≡ i + 1 = ap (λ (x : ℕ). getD places x 0) (sym is) ∙ omega arith in
@@ -152,7 +152,7 @@ module _ (n m : ℕ) (c : List ℕ) (f half : ℕ) (sums places a : List ℕ) (w
         }
 
     -- it joins the basis, and the next unit is its standard column
-    pub walk-new : (s p : List ℕ) → Grown (getD c f 0) half half sums places s p → Walk n m c (f + 1) (half + half) s p (set a f half)
+    pub walk-new : (s p : List ℕ) → SumsGrown (getD c f 0) half half sums places s p → ColumnWalk n m c (f + 1) (half + half) s p (set a f half)
     walk-new s p g =
         let r = w .rank in
         let t = w .basis in
@@ -182,7 +182,7 @@ module _ (n m : ℕ) (c : List ℕ) (f half : ℕ) (sums places a : List ℕ) (w
         }
 
 -- all columns passed: they have rank m exactly if the basis reaches 2^m numbers, and then the standard columns have their runs
-module _ (n m : ℕ) (c : List ℕ) (half : ℕ) (sums places a : List ℕ) (below : Below n m c) (w : Walk n m c n half sums places a) where
+module _ (n m : ℕ) (c : List ℕ) (half : ℕ) (sums places a : List ℕ) (below : Below n m c) (w : ColumnWalk n m c n half sums places a) where
   module _ (full : half ≡ 2 ^ m) where
     rank-is : w .rank ≡ m
     rank-is = pow-inj (w .rank) m (sym (w .size) ∙ full)
@@ -223,15 +223,16 @@ module _ (n m : ℕ) (c : List ℕ) (half : ℕ) (sums places a : List ℕ) (bel
       let e : r ≡ m = omega (arith, w .most) in
       ne (w .size ∙ ap (λ (k : ℕ). 2 ^ k) e)
 
-pub walk-full : (n m : ℕ) (c : List ℕ) (f half : ℕ) (sums places a : List ℕ) → Below n m c → f ≡ n → Walk n m c f half sums places a → half ≡ 2 ^ m
-    → Found n m (Spans n m c) (planOf n m c) true a
+pub walk-full : (n m : ℕ) (c : List ℕ) (f half : ℕ) (sums places a : List ℕ) → Below n m c → f ≡ n → ColumnWalk n m c f half sums places a → half ≡ 2 ^ m
+    → StandardFound n m (Spans n m c) (planOf n m c) true a
 walk-full n m c f half sums places a below e walk full =
-    let w : Walk n m c n half sums places a = subst (λ (g : ℕ). Walk n m c g half sums places a) e walk in
+    let w : ColumnWalk n m c n half sums places a = subst (λ (g : ℕ). ColumnWalk n m c g half sums places a) e walk in
     is-found n m (Spans n m c) (planOf n m c) a (full-spans n m c half sums places a below w full)
     (full-standard n m c half sums places a below w full) (w .unused)
 
-pub walk-short : (n m : ℕ) (c : List ℕ) (f half : ℕ) (sums places a : List ℕ) → Below n m c → f ≡ n → Walk n m c f half sums places a → (half ≡ 2 ^ m → ⊥)
-    → Found n m (Spans n m c) (planOf n m c) false (replicate 16 0)
+pub walk-short : (n m : ℕ) (c : List ℕ) (f half : ℕ) (sums places a : List ℕ) → Below n m c → f ≡ n
+    → ColumnWalk n m c f half sums places a → (half ≡ 2 ^ m → ⊥)
+    → StandardFound n m (Spans n m c) (planOf n m c) false (replicate 16 0)
 walk-short n m c f half sums places a below e walk short =
     not-found n m (Spans n m c) (planOf n m c)
-    (short-spans n m c half sums places a below (subst (λ (g : ℕ). Walk n m c g half sums places a) e walk) short)
+    (short-spans n m c half sums places a below (subst (λ (g : ℕ). ColumnWalk n m c g half sums places a) e walk) short)

@@ -6,15 +6,17 @@ ghost use lib.ListN.{length, getD};
 ghost use Rattle.gf2.specs.Doubling.{Doubling};
 ghost use Rattle.regular.specs.Columns.{planOf, Below, Spans, RunTable, runOf};
 ghost use Rattle.standard.specs.Form.{DistinctNonzero, Repeat};
-ghost use Rattle.standard.specs.Finding.{Found};
-ghost use Rattle.column_forms.specs.Tables.{Grown};
+ghost use Rattle.standard.specs.Finding.{StandardFound};
+ghost use Rattle.column_forms.specs.Tables.{SumsGrown};
+use regular::FACTORS;
+use regular::NUMBERS;
 use regular::Standardized;
 
 // Twice as many sums of columns, by the column c: place half + k holds the sum at place k with c, and places finds it again.
 // Called by the order of basic factors.
-pub fn double(c: u8, half: usize, sums: &mut [u8; 128], places: &mut [u8; 128])
+pub fn double(c: u8, half: usize, sums: &mut [u8; NUMBERS], places: &mut [u8; NUMBERS])
     requires { ⌜ (half ≤ 64) × (c < 128) × (length (now sums) ≡ 128) × (length (now places) ≡ 128) × ((k : ℕ) → k < half → getD (now sums) k 0 < 128) ⌝ }
-    ensures { λ _. ⌜ Grown c half half (now (sums .entry)) (now (places .entry)) (now (sums .exit)) (now (places .exit)) ⌝ }
+    ensures { λ _. ⌜ SumsGrown c half half (now (sums .entry)) (now (places .entry)) (now (sums .exit)) (now (places .exit)) ⌝ }
 {
     let mut k: usize = 0;
     while k < half {
@@ -27,13 +29,13 @@ pub fn double(c: u8, half: usize, sums: &mut [u8; 128], places: &mut [u8; 128])
 }
 
 // The standard columns of the plan of the columns, found exactly if they have rank m.
-pub fn standardize(n: usize, m: usize, cols: [u8; 16]) -> Standardized
+pub fn standardize(n: usize, m: usize, cols: [u8; FACTORS]) -> Standardized
     requires { ⌜ (n ≤ 16) × (m ≤ 7) × Below n m cols ⌝ }
-    ensures { λ r. ⌜ Found n m (Spans n m cols) (planOf n m cols) (r .ok) (r .columns) ⌝ }
+    ensures { λ r. ⌜ StandardFound n m (Spans n m cols) (planOf n m cols) (r .ok) (r .columns) ⌝ }
 {
-    let mut columns = [0u8; 16];
-    let mut sums = [0u8; 128];
-    let mut places = [0u8; 128];
+    let mut columns = [0u8; FACTORS];
+    let mut sums = [0u8; NUMBERS];
+    let mut places = [0u8; NUMBERS];
     places[0] = 1;
     let mut half: usize = 1;
     let mut f: usize = 0;
@@ -54,18 +56,18 @@ pub fn standardize(n: usize, m: usize, cols: [u8; 16]) -> Standardized
     if half != 1 << m {
         return Standardized {
             ok: false,
-            columns: [0u8; 16],
+            columns: [0u8; FACTORS],
         };
     }
     Standardized { ok: true, columns }
 }
 
 // Whether no column is 0 and none stands twice.
-pub fn distinct_nonzero(n: usize, cols: [u8; 16]) -> bool
+pub fn distinct_nonzero(n: usize, cols: [u8; FACTORS]) -> bool
     requires { ⌜ (n ≤ 16) × Below n 7 cols ⌝ }
     ensures { λ r. ⌜ (r ≡ true → DistinctNonzero n cols) × (r ≡ false → Repeat n cols) ⌝ }
 {
-    let mut seen = [0u8; 128];
+    let mut seen = [0u8; NUMBERS];
     seen[0] = 1;
     let mut f: usize = 0;
     while f < n {
@@ -80,7 +82,7 @@ pub fn distinct_nonzero(n: usize, cols: [u8; 16]) -> bool
 }
 
 // Run 2^d of the columns: bit d of column f at bit f.
-fn unit_run(n: usize, d: usize, cols: [u8; 16]) -> u16
+fn unit_run(n: usize, d: usize, cols: [u8; FACTORS]) -> u16
     requires { ⌜ (n ≤ 16) × (d < 16) ⌝ }
     ensures { λ r. ⌜ r ≡ runOf cols n (2 ^ d) ⌝ }
 {
@@ -95,7 +97,7 @@ fn unit_run(n: usize, d: usize, cols: [u8; 16]) -> u16
 }
 
 // Twice as many runs, by the run u: place half + k holds the run at place k exclusive-or u.
-fn copy_runs(u: u16, half: usize, t: &mut [u16; 128])
+fn copy_runs(u: u16, half: usize, t: &mut [u16; NUMBERS])
     requires { ⌜ (half ≤ 64) × (length (now t) ≡ 128) ⌝ }
     ensures { λ _. ⌜ Doubling u half half (now (t .entry)) (now (t .exit)) ⌝ }
 {
@@ -108,11 +110,11 @@ fn copy_runs(u: u16, half: usize, t: &mut [u16; 128])
 }
 
 // The run table of the columns: run j at place j, the unused places zero.
-pub fn run_table(n: usize, m: usize, cols: [u8; 16]) -> [u16; 128]
+pub fn run_table(n: usize, m: usize, cols: [u8; FACTORS]) -> [u16; NUMBERS]
     requires { ⌜ (n ≤ 16) × (m ≤ 7) ⌝ }
     ensures { λ r. ⌜ RunTable n m cols r ⌝ }
 {
-    let mut t = [0u16; 128];
+    let mut t = [0u16; NUMBERS];
     let mut half: usize = 1;
     let mut d: usize = 0;
     while d < m {

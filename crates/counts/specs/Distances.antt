@@ -10,7 +10,7 @@ use Rattle.regular.specs.Columns.{runOf, planOf, RunTable}
 use Rattle.regular.specs.Pattern.{Distances}
 use Rattle.regular.specs.Runs.{Runs, Regular}
 use Rattle.regular.specs.Words.{letters}
-use Rattle.standard.specs.Form.{Apart}
+use Rattle.standard.specs.Form.{ZeroOnce}
 use Rattle.standard.specs.FromColumns.{apart-inj}
 use Rattle.counts.specs.Models.{DistanceModel}
 use Rattle.counts.specs.Tally.{tally, tally-same, tally-image}
@@ -40,7 +40,7 @@ module _ (s : Runs) (regular : Regular s) (r t : ℕ) (hr : s r) (ht : s t) wher
   }
 
 -- columns of rank m: the runs of i low levels
-module _ (n m : ℕ) (c : List ℕ) (apart : Apart n m c) where
+module _ (n m : ℕ) (c : List ℕ) (apart : ZeroOnce n m c) where
   pub levels-count : (i : ℕ) → Count (λ x. planOf n m c x × (letters (bitXor x 0) ≡ i)) (tally (λ j. letters (runOf c n j)) (2 ^ m) i)
   levels-count i =
       count-same (λ x. (j : ℕ) × ((j < 2 ^ m) × ((letters (runOf c n j) ≡ i) × (x ≡ runOf c n j)))) (λ x. planOf n m c x × (letters (bitXor x 0) ≡ i))

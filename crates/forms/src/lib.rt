@@ -15,6 +15,8 @@ use bits::power;
 use regular::Admitted;
 use regular::Design;
 use regular::DesignAnswer;
+use regular::FACTORS;
+use regular::RUNS;
 use regular::RunsAnswer;
 
 // The design record of an admitted plan.
@@ -104,14 +106,14 @@ pub fn words_of_columns(n: usize, g: usize, columns: &[u8], out: &mut [u16]) -> 
 }
 
 // The run table of columns, if their plan has no refusal.
-fn runs_of(n: usize, g: usize, number: u8, columns: [u8; 16]) -> RunsAnswer
+fn runs_of(n: usize, g: usize, number: u8, columns: [u8; FACTORS]) -> RunsAnswer
     requires { ⌜ (number ≡ 0 → Size n g) ⌝ }
     ensures { λ r. ⌜ RunsMade n (n - g) number columns (r .number) (r .runs) ⌝ }
 {
     if number != 0 {
         return RunsAnswer {
             number,
-            runs: [0u16; 128],
+            runs: [0u16; RUNS],
         };
     }
     let runs = column_forms::run_table(n, n - g, columns);
@@ -137,7 +139,7 @@ pub fn runs_of_words(n: usize, g: usize, words: &[u16]) -> RunsAnswer
 }
 
 // The runs of columns in a lent list, if their plan has no refusal.
-fn lend_runs(n: usize, g: usize, number: u8, columns: [u8; 16], out: &mut [u16]) -> u8
+fn lend_runs(n: usize, g: usize, number: u8, columns: [u8; FACTORS], out: &mut [u16]) -> u8
     requires { ⌜ (number ≡ 0 → Size n g) ⌝ }
     ensures { λ r. ⌜ Lends number (2 ^ (n - g)) (Listed n (n - g) columns) (now (out .entry)) (now (out .exit)) r ⌝ }
 {

@@ -22,11 +22,11 @@ use Rattle.words.specs.WordList.{wordsTo, listed}
 use Rattle.generators.specs.WordTable.{WordTable}
 
 -- the basics as letters: the i-th at place i, the list having the last first
-abbrev pub Placed : List ℕ → List ℕ → Type 0
-Placed [] u = Unit {0}
-Placed (p ∷ bs) u = (getD u (length bs) 0 ≡ 1 * 2 ^ p) × Placed bs u
+abbrev pub BasicsPlaced : List ℕ → List ℕ → Type 0
+BasicsPlaced [] u = Unit {0}
+BasicsPlaced (p ∷ bs) u = (getD u (length bs) 0 ≡ 1 * 2 ^ p) × BasicsPlaced bs u
 
-placed-set : (bs u : List ℕ) (i v : ℕ) → length bs ≤ i → Placed bs u → Placed bs (set u i v)
+placed-set : (bs u : List ℕ) (i v : ℕ) → length bs ≤ i → BasicsPlaced bs u → BasicsPlaced bs (set u i v)
 placed-set [] u i v h p = tt
 placed-set (q ∷ bs) u i v h p = (getD-set-other u i (length bs) v 0 (λ e. omega arith) ∙ p .0, placed-set bs u i v (omega arith) (p .1))
 
@@ -34,7 +34,7 @@ swap : (x d : ℕ) → (1 * x) * d ≡ d * x
 swap x d = mul-comm (1 * x) d ∙ ap (λ (y : ℕ). d * y) (omega arith)
 
 -- the sum of the letters at the bits of k is the set of those basics
-placed-total : (bs u : List ℕ) (k : ℕ) → Placed bs u → total u (length bs) k ≡ spread bs k
+placed-total : (bs u : List ℕ) (k : ℕ) → BasicsPlaced bs u → total u (length bs) k ≡ spread bs k
 unfolding total spread
 placed-total [] u k p = refl
 placed-total (q ∷ bs) u k p =
@@ -51,20 +51,20 @@ snoc-read u xs x j e h same i =
     (λ l. List·getD-eq-default xs 0 {n = i} (omega arith) ∙ sym (List·getD-eq-default (xs ++ (x ∷ [])) 0 {n = i} (omega (arith, length-append xs (x ∷ []))))))
 
 -- after f factors: m basics, the next unit, the basics as letters, the words
-pub record Walked (a : List ℕ) (f m unit : ℕ) (basics words : List ℕ) : Type 0 where
+pub record WordsWalk (a : List ℕ) (f m unit : ℕ) (basics words : List ℕ) : Type 0 where
   pub count : m ≡ unitsBefore a f
   pub few : m ≤ f
   pub next : unit ≡ 2 ^ m
   pub basics-size : length basics ≡ 16
   pub words-size : length words ≡ 16
-  pub placed : Placed (unitsAt a f) basics
+  pub placed : BasicsPlaced (unitsAt a f) basics
   pub read : (i : ℕ) → getD words i 0 ≡ getD (wordsTo a f) i 0
 
-pub walked-none : (a : List ℕ) → Walked a 0 0 1 (replicate 16 0) (replicate 16 0)
+pub walked-none : (a : List ℕ) → WordsWalk a 0 0 1 (replicate 16 0) (replicate 16 0)
 unfolding unitsBefore unitsAt wordsTo
 walked-none a = record { count = refl; few = omega arith; next = refl; basics-size = refl; words-size = refl; placed = tt; read = zeros 16 }
 
-module _ (a : List ℕ) (f m unit : ℕ) (basics words : List ℕ) (hf : f < 16) (w : Walked a f m unit basics words) where
+module _ (a : List ℕ) (f m unit : ℕ) (basics words : List ℕ) (hf : f < 16) (w : WordsWalk a f m unit basics words) where
   basic-count : length (unitsAt a f) ≡ m
   basic-count = unitary a f .count ∙ sym (w .count)
 
@@ -72,7 +72,7 @@ module _ (a : List ℕ) (f m unit : ℕ) (basics words : List ℕ) (hf : f < 16)
   unit-is = w .next ∙ ap (λ (k : ℕ). 2 ^ k) (w .count)
 
   -- factor f is basic
-  pub walked-basic : (v : ℕ) → getD a f 0 ≡ unit → v ≡ 1 * 2 ^ f → Walked a (f + 1) (m + 1) (unit + unit) (set basics m v) words
+  pub walked-basic : (v : ℕ) → getD a f 0 ≡ unit → v ≡ 1 * 2 ^ f → WordsWalk a (f + 1) (m + 1) (unit + unit) (set basics m v) words
   unfolding unitsBefore unitsAt wordsTo
   walked-basic v e h =
       let t = eq-eqb (getD a f 0) (2 ^ unitsBefore a f) (e ∙ unit-is) in
@@ -94,7 +94,7 @@ module _ (a : List ℕ) (f m unit : ℕ) (basics words : List ℕ) (hf : f < 16)
 
   -- factor f has a word
   pub walked-word : (g v : ℕ) → (getD a f 0 ≡ unit → ⊥) → g ≡ f - m → v ≡ bitXor (1 * 2 ^ f) (total basics m (getD a f 0))
-      → Walked a (f + 1) m unit basics (set words g v)
+      → WordsWalk a (f + 1) m unit basics (set words g v)
   unfolding unitsBefore unitsAt wordsTo
   walked-word g v ne hg h =
       let t = ne-eqb (getD a f 0) (2 ^ unitsBefore a f) (λ e. ne (e ∙ sym unit-is)) in
@@ -116,5 +116,5 @@ module _ (a : List ℕ) (f m unit : ℕ) (basics words : List ℕ) (hf : f < 16)
         read = rw (t, e) (snoc-read words (wordsTo a f) (wordAt a f) g l (omega arith) (w .read));
       })
 
-pub walked-all : (a : List ℕ) (f n m unit : ℕ) (basics words : List ℕ) → f ≡ n → Walked a f m unit basics words → WordTable n a words
+pub walked-all : (a : List ℕ) (f n m unit : ℕ) (basics words : List ℕ) → f ≡ n → WordsWalk a f m unit basics words → WordTable n a words
 walked-all a f n m unit basics words e w = record { places = w .words-size; word = λ i. w .read i ∙ ap (λ (k : ℕ). getD (wordsTo a k) i 0) e }

@@ -5,6 +5,7 @@ ghost use lib.Bits.{bitXor};
 ghost use Rattle.gf2.specs.Digits.{bit};
 ghost use Rattle.regular.specs.Words.{total};
 ghost use Rattle.generators.specs.WordTable.{WordTable};
+use regular::FACTORS;
 
 // The set of the one factor f.
 fn letter(f: usize) -> u16
@@ -26,7 +27,7 @@ fn plus(t: u16, p: u16, c: u16, i: usize) -> u16
 }
 
 // The basic factors that enter a factor with column c, the i-th of the m basics as a letter at place i.
-fn basics_in(basics: &[u16; 16], m: usize, c: u16) -> u16
+fn basics_in(basics: &[u16; FACTORS], m: usize, c: u16) -> u16
     requires { ⌜ m ≤ 16 ⌝ }
     ensures { λ r. ⌜ r ≡ total (now (basics .entry)) m c ⌝ }
 {
@@ -40,12 +41,12 @@ fn basics_in(basics: &[u16; 16], m: usize, c: u16) -> u16
 }
 
 // The reduced words of the plan of standard columns, by rising last letter, zeros after them. Called by the calls on words and patterns.
-pub fn generators(n: usize, columns: [u8; 16]) -> [u16; 16]
+pub fn generators(n: usize, columns: [u8; FACTORS]) -> [u16; FACTORS]
     requires { ⌜ n ≤ 16 ⌝ }
     ensures { λ r. ⌜ WordTable n columns r ⌝ }
 {
-    let mut words = [0u16; 16];
-    let mut basics = [0u16; 16];
+    let mut words = [0u16; FACTORS];
+    let mut basics = [0u16; FACTORS];
     let mut unit: usize = 1;
     let mut m: usize = 0;
     let mut f: usize = 0;

@@ -30,7 +30,7 @@ use Rattle.smallest_test_laws.specs.Branches.{Identity}
 use Rattle.smallest_test_laws.specs.Later.{AllLater, later-none}
 use Rattle.smallest_test_laws.specs.Mirrors.{Clear, clear-all}
 use Rattle.smallest_columns.specs.Reaching.{Reaches, reaches-blank}
-use Rattle.smallest_columns.specs.Forming.{Sourced, Form, tested-length}
+use Rattle.smallest_columns.specs.Forming.{Sourced, RisingForm, tested-length}
 use Rattle.comparison.specs.Matching.{Imaged}
 use Rattle.basics.specs.Order.{Most}
 use Rattle.basics.specs.OrderSteps.{most-none}
@@ -203,7 +203,7 @@ pulled-1 = tested-length 1 1 column marks (1 ∷ []) (rising-distinct 1 1 column
 pub sourced-1 : Sourced 1 column column marks
 sourced-1 = first (λ g. (j : ℕ) × ((j < 1) × (getD marks (getD column j 0) 0 ≡ getD column g 0))) (0, (omega arith, refl))
 
-pub form-1 : (names : List ℕ) × Form 1 1 column column names
+pub form-1 : (names : List ℕ) × RisingForm 1 1 column column names
 unfolding listTo
 form-1 = (
   kept 1,

@@ -7,7 +7,7 @@ use Rattle.words.specs.Standards.{form-cols}
 use Rattle.smallest_laws.specs.UnitForms.{rising-distinct}
 use Rattle.admission.specs.Admission.{Ready}
 use Rattle.plan_lists.specs.Accepted.{AcceptedPlans, AcceptedRecords, plans-accepted, records-accepted}
-use Rattle.witness_check.specs.Names.{Named}
+use Rattle.witness_check.specs.Names.{AllNamed}
 use Rattle.regular.specs.Accepted.{sizes-accepted}
 use Rattle.regular.specs.Refusals.{Lowest, sizeFaults}
 use Rattle.regular.specs.RefusalLaws.{lowest-none}
@@ -42,5 +42,5 @@ pub accepted-list : Lowest (plansFaults 4 1 plans) 0
 accepted-list = lowest-none (plansFaults 4 1 plans) plans-none
 
 -- names of a claimed witness
-pub named-bcda : Named 4 (1 ∷ 2 ∷ 3 ∷ 0 ∷ [])
+pub named-bcda : AllNamed 4 (1 ∷ 2 ∷ 3 ∷ 0 ∷ [])
 named-bcda = record { count = refl; renaming = witness-disguised .carries .renaming }

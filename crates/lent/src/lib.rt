@@ -7,6 +7,7 @@ ghost use Rattle.regular.specs.Smallest.{Equal};
 ghost use Rattle.lent.specs.Copied.{Copied, Starts};
 ghost use Rattle.lent.specs.Lending.{Lending};
 ghost use Rattle.lent.specs.Lends.{Lends};
+use regular::FACTORS;
 
 // The numbers of `numbers`, at the first places of `out`.
 fn copy_numbers(numbers: &[u16], out: &mut [u16])
@@ -55,7 +56,7 @@ fn lend_bytes(bytes: &[u8], out: &mut [u8]) -> u8
 }
 
 // The first n bytes of an array as a result: 8 if `out` has too few places, else 0 with `out` filled.
-pub fn lend_first(n: usize, bytes: [u8; 16], out: &mut [u8]) -> u8
+pub fn lend_first(n: usize, bytes: [u8; FACTORS], out: &mut [u8]) -> u8
     requires { ⌜ n ≤ 16 ⌝ }
     ensures { λ r. ⌜ Lends 0 n (λ zs. Equal n zs bytes) (now (out .entry)) (now (out .exit)) r ⌝ }
 {
@@ -63,7 +64,7 @@ pub fn lend_first(n: usize, bytes: [u8; 16], out: &mut [u8]) -> u8
 }
 
 // The first n bytes of an array, at the places of `out` from `at` on, where there is room.
-pub fn put_first(n: usize, bytes: [u8; 16], at: usize, out: &mut [u8])
+pub fn put_first(n: usize, bytes: [u8; FACTORS], at: usize, out: &mut [u8])
     requires { ⌜ (n ≤ 16) × (at + n ≤ length (now out)) ⌝ }
     ensures { λ _. ⌜ now (out .exit) ≡ paste (now (out .entry)) at bytes n ⌝ }
 {

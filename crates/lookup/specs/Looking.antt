@@ -29,6 +29,7 @@ look-more At i found r (FirstPlace.found k h p none) (Looked.here e _) = absurd 
 look-more At i found r (FirstPlace.found k h p none) (Looked.nowhere e _) = absurd (omega arith)
 
 -- all of them
-pub look-all : (There At : ℕ → Type 0) (i found : ℕ) → ((j : ℕ) → j < i → There j) → ((j : ℕ) → There j → j < i) → FirstPlace (λ j. j < i) At found → FirstPlace There At found
+pub look-all : (There At : ℕ → Type 0) (i found : ℕ) → ((j : ℕ) → j < i → There j) → ((j : ℕ) → There j → j < i) → FirstPlace (λ j. j < i) At found
+    → FirstPlace There At found
 look-all There At i found into onto (FirstPlace.absent none) = FirstPlace.absent (λ j h. none j (onto j h))
 look-all There At i found into onto (FirstPlace.found k h p none) = FirstPlace.found k (into k h) p none

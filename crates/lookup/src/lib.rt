@@ -7,6 +7,7 @@ use plan_layout::has_columns;
 use plan_layout::plan_count;
 use plan_layout::same_design;
 use regular::Design;
+use regular::FACTORS;
 
 // The first place so far: `found`, or if that is 0 the place of the record c, if it is d.
 fn look(found: usize, place: usize, c: Design, d: Design) -> usize
@@ -37,7 +38,7 @@ pub fn first_place(list: &[Design], d: Design) -> usize
 }
 
 // The first place, from 1, of n columns in a list of plans one after another, 0 if they are absent.
-pub fn first_columns(n: usize, list: &[u8], c: [u8; 16]) -> usize
+pub fn first_columns(n: usize, list: &[u8], c: [u8; FACTORS]) -> usize
     requires { ⌜ (1 ≤ n) × (n ≤ 16) ⌝ }
     ensures { λ r. ⌜ ColumnsPlace n (now (list .entry)) c r ⌝ }
 {

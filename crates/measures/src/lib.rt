@@ -12,11 +12,12 @@ ghost use Rattle.measures.specs.Measured.{ResolutionMade};
 use bits::power;
 use regular::Admitted;
 use regular::Design;
+use regular::FACTORS;
 use regular::ResolutionAnswer;
 
 // The pattern of standard columns: the count of length l at place l - 1. Public for the calls on aberration, comparison, several plans and the book,
 // which admit their plans first.
-pub fn pattern(n: usize, g: usize, columns: [u8; 16]) -> [u16; 16]
+pub fn pattern(n: usize, g: usize, columns: [u8; FACTORS]) -> [u16; FACTORS]
     requires { ⌜ Ready n g columns ⌝ }
     ensures { λ r. ⌜ Pattern n (planOf n (n - g) columns) r × ((i : ℕ) → n ≤ i → getD r i 0 ≡ 0) ⌝ }
 {
@@ -25,7 +26,7 @@ pub fn pattern(n: usize, g: usize, columns: [u8; 16]) -> [u16; 16]
 }
 
 // The distance counts of standard columns from their first run: of distance i at place i.
-fn distances(n: usize, g: usize, columns: [u8; 16]) -> [u16; 17]
+fn distances(n: usize, g: usize, columns: [u8; FACTORS]) -> [u16; 17]
     requires { ⌜ Ready n g columns ⌝ }
     ensures { λ r. ⌜ Distances n (planOf n (n - g) columns) 0 r ⌝ }
 {

@@ -23,7 +23,7 @@ use Rattle.counts.specs.Tally.{tally, tally-start, tally-hit, tally-miss, tally
 use Rattle.regular.specs.Pattern.{Better, ofLength}
 use Rattle.regular.specs.Words.{letters, total}
 use Rattle.standard.specs.Total.{total-more, total-next}
-use Rattle.patterns.specs.Steps.{Products, LetterCounts, FromOne}
+use Rattle.patterns.specs.Steps.{Products, LettersCounted, FromOne}
 
 -- the products
 pub products-none : (ws : List ℕ) → Products 0 ws (replicate 2048 0)
@@ -51,17 +51,17 @@ pub products-all : (d g : ℕ) (ws u : List ℕ) → d ≤ g → g ≤ d → Pro
 products-all d g ws u p q h = let e : d ≡ g = omega arith in subst (λ (k : ℕ). Products k ws u) e h
 
 -- the letter counts
-pub counts-none : (xs : List ℕ) → LetterCounts 0 xs (replicate 17 0)
+pub counts-none : (xs : List ℕ) → LettersCounted 0 xs (replicate 17 0)
 counts-none xs = record { places = refl; count = λ i h. zeros 17 i ∙ sym (tally-start (λ j. letters (getD xs j 0)) i) }
 
-pub counts-le : (k l : ℕ) (xs t : List ℕ) → l ≤ 16 → LetterCounts k xs t → getD t l 0 ≤ k
+pub counts-le : (k l : ℕ) (xs t : List ℕ) → l ≤ 16 → LettersCounted k xs t → getD t l 0 ≤ k
 counts-le k l xs t h c = omega (arith, c .count l h, tally-le (λ j. letters (getD xs j 0)) k l)
 
-pub counts-more : (k l : ℕ) (xs t : List ℕ) → l ≡ letters (getD xs k 0) → l ≤ 16 → LetterCounts k xs t → LetterCounts (k + 1) xs (set t l (getD t l 0 + 1))
+pub counts-more : (k l : ℕ) (xs t : List ℕ) → l ≡ letters (getD xs k 0) → l ≤ 16 → LettersCounted k xs t → LettersCounted (k + 1) xs (set t l (getD t l 0 + 1))
 counts-more k l xs t e h c =
     let v : ℕ → ℕ = λ j. letters (getD xs j 0) in
     let y = getD t l 0 + 1 in
-    subst (λ (j : ℕ). LetterCounts j xs (set t l y)) (sym (add-one k))
+    subst (λ (j : ℕ). LettersCounted j xs (set t l y)) (sym (add-one k))
     (record {
       places = length-set t l y ∙ c .places;
       count = λ i b. by-cases (ℕ-discrete i l)
@@ -70,8 +70,8 @@ counts-more k l xs t e h c =
           (λ ne. getD-set-other t l i y 0 ne ∙ c .count i b ∙ sym (tally-miss v k i (λ q. ne (sym q ∙ sym e))));
     })
 
-pub counts-all : (k end : ℕ) (xs t : List ℕ) → k ≤ end → end ≤ k → LetterCounts k xs t → LetterCounts end xs t
-counts-all k end xs t p q c = let e : k ≡ end = omega arith in subst (λ (j : ℕ). LetterCounts j xs t) e c
+pub counts-all : (k end : ℕ) (xs t : List ℕ) → k ≤ end → end ≤ k → LettersCounted k xs t → LettersCounted end xs t
+counts-all k end xs t p q c = let e : k ≡ end = omega arith in subst (λ (j : ℕ). LettersCounted j xs t) e c
 
 -- the lengths from 1
 pub from-none : (counts : List ℕ) → FromOne 0 counts (replicate 16 0)
@@ -100,7 +100,7 @@ pub end-le : (g : ℕ) → g ≤ 11 → 1 * 2 ^ g % 2 ^ 64 ≤ 2048
 end-le g h = omega (arith, end-is g h, pow-mono {i = g} {j = 11} h)
 
 -- the pattern
-pub pattern-model : (n g end : ℕ) (ws sums counts p : List ℕ) → n ≤ 16 → end ≡ 2 ^ g → Products g ws sums → LetterCounts end sums counts
+pub pattern-model : (n g end : ℕ) (ws sums counts p : List ℕ) → n ≤ 16 → end ≡ 2 ^ g → Products g ws sums → LettersCounted end sums counts
     → FromOne n counts p → PatternModel n g ws p
 pattern-model n g end ws sums counts p h e a b f =
     record {
@@ -113,7 +113,7 @@ pattern-model n g end ws sums counts p h e a b f =
     }
 
 -- the distance counts
-pub distance-model : (end : ℕ) (runs d : List ℕ) → LetterCounts end runs d → DistanceModel 16 end runs d
+pub distance-model : (end : ℕ) (runs d : List ℕ) → LettersCounted end runs d → DistanceModel 16 end runs d
 distance-model end runs d c = record { counts = c .count; unused = λ i l. List·getD-eq-default d 0 {n = i} (omega (arith, c .places)) }
 
 -- the first length

@@ -12,7 +12,7 @@ pub record Products (g : ℕ) (ws sums : List ℕ) : Type 0 where
   pub product : (t : ℕ) → t < 2 ^ g → getD sums t 0 ≡ total ws g t
 
 -- how many of the first k numbers of a list have i letters, at place i of 17
-pub record LetterCounts (k : ℕ) (xs counts : List ℕ) : Type 0 where
+pub record LettersCounted (k : ℕ) (xs counts : List ℕ) : Type 0 where
   pub places : length counts ≡ 17
   pub count : (i : ℕ) → i ≤ 16 → getD counts i 0 ≡ tally (λ j. letters (getD xs j 0)) k i
 

@@ -7,10 +7,15 @@ ghost use Rattle.gf2.specs.Doubling.{Doubling};
 ghost use Rattle.regular.specs.Pattern.{Better};
 ghost use Rattle.counts.specs.Models.{PatternModel, DistanceModel, firstLength};
 ghost use Rattle.counts.specs.ShortWords.{CountBelow, NoneBelow};
-ghost use Rattle.patterns.specs.Steps.{Products, LetterCounts, FromOne};
+ghost use Rattle.patterns.specs.Steps.{Products, LettersCounted, FromOne};
+use regular::FACTORS;
+use regular::RUNS;
+
+// The most words of a plan, with the empty one.
+const WORDS: usize = 2048;
 
 // Puts each of the first half numbers, with w, half places further.
-fn double(sums: &mut [u16; 2048], half: usize, w: u16)
+fn double(sums: &mut [u16; WORDS], half: usize, w: u16)
     requires { ⌜ (half ≤ 1024) × (length (now sums) ≡ 2048) ⌝ }
     ensures { λ _. ⌜ Doubling w half half (now (sums .entry)) (now (sums .exit)) ⌝ }
 {
@@ -23,11 +28,11 @@ fn double(sums: &mut [u16; 2048], half: usize, w: u16)
 }
 
 // The products of the first g words, that of the words at the bits of t at place t.
-fn products(g: usize, words: [u16; 16]) -> [u16; 2048]
+fn products(g: usize, words: [u16; FACTORS]) -> [u16; WORDS]
     requires { ⌜ g ≤ 11 ⌝ }
     ensures { λ r. ⌜ Products g words r ⌝ }
 {
-    let mut sums = [0u16; 2048];
+    let mut sums = [0u16; WORDS];
     let mut half: usize = 1;
     let mut d: usize = 0;
     while d < g {
@@ -41,7 +46,7 @@ fn products(g: usize, words: [u16; 16]) -> [u16; 2048]
 // How many of the first `end` numbers have i letters, at place i.
 fn letter_counts(list: &[u16], end: usize) -> [u16; 17]
     requires { ⌜ (end ≤ length (now list)) × (end ≤ 2048) ⌝ }
-    ensures { λ r. ⌜ LetterCounts end (now (list .entry)) r ⌝ }
+    ensures { λ r. ⌜ LettersCounted end (now (list .entry)) r ⌝ }
 {
     let mut counts = [0u16; 17];
     let mut j: usize = 0;
@@ -55,11 +60,11 @@ fn letter_counts(list: &[u16], end: usize) -> [u16; 17]
 }
 
 // The counts of lengths 1 to n, that of length l at place l - 1.
-fn from_one(n: usize, counts: [u16; 17]) -> [u16; 16]
+fn from_one(n: usize, counts: [u16; 17]) -> [u16; FACTORS]
     requires { ⌜ n ≤ 16 ⌝ }
     ensures { λ r. ⌜ FromOne n counts r ⌝ }
 {
-    let mut p = [0u16; 16];
+    let mut p = [0u16; FACTORS];
     let mut i: usize = 0;
     while i < n {
         p[i] = counts[i + 1];
@@ -69,7 +74,7 @@ fn from_one(n: usize, counts: [u16; 17]) -> [u16; 16]
 }
 
 // The pattern of a plan from generators of its words: the count of length l at place l - 1. Called by the calls on patterns.
-pub fn pattern_of(n: usize, g: usize, words: [u16; 16]) -> [u16; 16]
+pub fn pattern_of(n: usize, g: usize, words: [u16; FACTORS]) -> [u16; FACTORS]
     requires { ⌜ (n ≤ 16) × (g ≤ 11) ⌝ }
     ensures { λ r. ⌜ PatternModel n g words r ⌝ }
 {
@@ -80,7 +85,7 @@ pub fn pattern_of(n: usize, g: usize, words: [u16; 16]) -> [u16; 16]
 }
 
 // The resolution from the pattern: the first length with a word, 0 if there is none.
-pub fn resolution_of(n: usize, pattern: [u16; 16]) -> u8
+pub fn resolution_of(n: usize, pattern: [u16; FACTORS]) -> u8
     requires { ⌜ n ≤ 16 ⌝ }
     ensures { λ r. ⌜ r ≡ firstLength n pattern ⌝ }
 {
@@ -95,7 +100,7 @@ pub fn resolution_of(n: usize, pattern: [u16; 16]) -> u8
 }
 
 // Whether some word has fewer than r letters.
-pub fn word_below(n: usize, r: usize, pattern: [u16; 16]) -> bool
+pub fn word_below(n: usize, r: usize, pattern: [u16; FACTORS]) -> bool
     requires { ⌜ n ≤ 16 ⌝ }
     ensures { λ res. ⌜ Tells res (CountBelow n r pattern) (NoneBelow n r pattern) ⌝ }
 {
@@ -113,7 +118,7 @@ pub fn word_below(n: usize, r: usize, pattern: [u16; 16]) -> bool
 }
 
 // How many of the first `end` runs have i low levels, at place i.
-pub fn distances_of(end: usize, runs: [u16; 128]) -> [u16; 17]
+pub fn distances_of(end: usize, runs: [u16; RUNS]) -> [u16; 17]
     requires { ⌜ end ≤ 128 ⌝ }
     ensures { λ r. ⌜ DistanceModel 16 end runs r ⌝ }
 {
@@ -121,7 +126,7 @@ pub fn distances_of(end: usize, runs: [u16; 128]) -> [u16; 17]
 }
 
 // Whether p has the smaller count at the first length from 3 to `last` where the two differ.
-pub fn better(last: usize, p: [u16; 16], q: [u16; 16]) -> bool
+pub fn better(last: usize, p: [u16; FACTORS], q: [u16; FACTORS]) -> bool
     requires { ⌜ last ≤ 16 ⌝ }
     ensures { λ r. ⌜ Tells r (Better last p q) (Better last p q → ⊥) ⌝ }
 {

@@ -9,6 +9,7 @@ ghost use Rattle.regular.specs.PlanBytes.{planBytes, planStart, planAt, HasPlan
 ghost use Rattle.regular.specs.Smallest.{Equal};
 ghost use Rattle.plan_layout.specs.Put.{PlanPut};
 use regular::Design;
+use regular::FACTORS;
 
 // How many bytes a plan takes.
 fn plan_bytes(n: usize) -> usize
@@ -59,12 +60,12 @@ pub fn plan_at(n: usize, plans: &[u8], i: usize) -> &[u8]
 }
 
 // The columns of plan i of the bytes, zeros after them.
-pub fn columns_at(n: usize, plans: &[u8], i: usize) -> [u8; 16]
+pub fn columns_at(n: usize, plans: &[u8], i: usize) -> [u8; FACTORS]
     requires { ⌜ (n ≤ 16) × HasPlan n (now plans) i ⌝ }
     ensures { λ r. ⌜ Equal n r (planAt n (now (plans .entry)) i) × ((f : ℕ) → n ≤ f → getD r f 0 ≡ 0) ⌝ }
 {
     let start = plan_start(n, i);
-    let mut columns = [0u8; 16];
+    let mut columns = [0u8; FACTORS];
     let mut f: usize = 0;
     while f < n {
         columns[f] = plans[start + f];
@@ -74,7 +75,7 @@ pub fn columns_at(n: usize, plans: &[u8], i: usize) -> [u8; 16]
 }
 
 // Whether plan i of the bytes has the columns c.
-pub fn has_columns(n: usize, plans: &[u8], i: usize, c: [u8; 16]) -> bool
+pub fn has_columns(n: usize, plans: &[u8], i: usize, c: [u8; FACTORS]) -> bool
     requires { ⌜ (n ≤ 16) × HasPlan n (now plans) i ⌝ }
     ensures { λ r. ⌜ Tells r (Equal n (planAt n (now (plans .entry)) i) c) (Equal n (planAt n (now (plans .entry)) i) c → ⊥) ⌝ }
 {
@@ -90,7 +91,7 @@ pub fn has_columns(n: usize, plans: &[u8], i: usize, c: [u8; 16]) -> bool
 }
 
 // The plan of the columns, as plan i of the bytes.
-pub fn put_plan(n: usize, columns: [u8; 16], i: usize, plans: &mut [u8])
+pub fn put_plan(n: usize, columns: [u8; FACTORS], i: usize, plans: &mut [u8])
     requires { ⌜ (n ≤ 16) × HasPlan n (now plans) i ⌝ }
     ensures { λ _. ⌜ PlanPut n columns i (now (plans .entry)) (now (plans .exit)) ⌝ }
 {
@@ -99,7 +100,7 @@ pub fn put_plan(n: usize, columns: [u8; 16], i: usize, plans: &mut [u8])
 }
 
 // The record of n factors, m basics and sixteen columns.
-pub fn design(n: usize, m: usize, columns: [u8; 16]) -> Design
+pub fn design(n: usize, m: usize, columns: [u8; FACTORS]) -> Design
     requires { ⌜ (n < 256) × (m < 256) ⌝ }
     ensures { λ r. ⌜ r ≡ designOf n m columns ⌝ }
 {
@@ -114,15 +115,15 @@ pub fn design(n: usize, m: usize, columns: [u8; 16]) -> Design
 pub fn blank_design() -> Design
     ensures { λ r. ⌜ r ≡ blank ⌝ }
 {
-    design(0, 0, [0u8; 16])
+    design(0, 0, [0u8; FACTORS])
 }
 
 // Whether two lists of sixteen columns are equal.
-fn same_columns(c: [u8; 16], d: [u8; 16]) -> bool
+fn same_columns(c: [u8; FACTORS], d: [u8; FACTORS]) -> bool
     ensures { λ r. ⌜ Tells r (c ≡ d) (c ≡ d → ⊥) ⌝ }
 {
     let mut f: usize = 0;
-    while f < 16 {
+    while f < FACTORS {
         if c[f] != d[f] {
             return false;
         }

@@ -49,7 +49,8 @@ pub wanted-low : (n r : ℕ) (s : Runs) → r ≤ 3 → NoShort n 3 s → Lowest
 wanted-low n r s low long = wanted-none n r s (λ w is. omega (arith, long w is))
 
 pub ready-long : {n g : ℕ} {a : List ℕ} → Ready n g a → NoShort n 3 (planOf n (n - g) a)
-ready-long {n} {g} {a} r = distinct-long n (n - g) (planOf n (n - g) a) a (record { form = r .form; plan = record { into = λ x p. p; onto = λ x p. p } }) (r .distinct)
+ready-long {n} {g} {a} r =
+    distinct-long n (n - g) (planOf n (n - g) a) a (record { form = r .form; plan = record { into = λ x p. p; onto = λ x p. p } }) (r .distinct)
 
 -- a refusal is passed on; an admitted plan is judged
 pub passed-on : (n r : ℕ) (s : Runs) (number : ℕ) → (number ≡ 0 → ⊥) → WantedNumber n r s number number
@@ -67,7 +68,8 @@ module _ {n g : ℕ} {p : Given} {x : Admitted} (ad : Admission n g p x) where
   away = switched (x .run) (p .plan)
 
   into : x .number ≡ 0 → (r j : ℕ) → WantedFault n r (planOf n (n - g) (x .columns)) j → WantedFault n r (p .plan) j
-  into e r j (WantedFault.short w) = WantedFault.short (short-switched n (x .run) (p .plan) r (short-agree n columns away (agree-sym away columns (ad .standard e .plan)) r w))
+  into e r j (WantedFault.short w) =
+      WantedFault.short (short-switched n (x .run) (p .plan) r (short-agree n columns away (agree-sym away columns (ad .standard e .plan)) r w))
 
   onto : x .number ≡ 0 → (r j : ℕ) → WantedFault n r (p .plan) j → WantedFault n r (planOf n (n - g) (x .columns)) j
   onto e r j (WantedFault.short w) =
@@ -85,7 +87,8 @@ module _ {n g : ℕ} {p : Given} {x : Admitted} (ad : Admission n g p x) where
       (λ j f. omega (arith, wanted-is n r (p .plan) j f, ad .most (x .number) (ad .lowest .applies (omega arith))))))
 
 -- one plan more
-module _ (S : ℕ → Type 0) (fault : ℕ → ℕ → Type 0) (count lowest k : ℕ) (low : Lowest (either S (ofSome (λ i. i < count) fault)) lowest) (j : JudgedMore (fault count) lowest k) where
+module _ (S : ℕ → Type 0) (fault : ℕ → ℕ → Type 0) (count lowest k : ℕ) (low : Lowest (either S (ofSome (λ i. i < count) fault)) lowest)
+    (j : JudgedMore (fault count) lowest k) where
   abbrev FaultsBefore : ℕ → Type 0
   FaultsBefore = either S (ofSome (λ i. i < count) fault)
 
@@ -103,7 +106,9 @@ module _ (S : ℕ → Type 0) (fault : ℕ → ℕ → Type 0) (count lowest k :
       by-cases (decLt i count) (λ h. inl (inr (i, (h, f)))) (λ h. let e : i ≡ count = omega arith in inr (subst (λ (m : ℕ). fault m k) e f))
 
   pub joined : Lowest FaultsAfter k
-  joined = lowest-same (either FaultsBefore (fault count)) FaultsAfter k joined-into joined-onto (lowest-lower FaultsBefore (fault count) lowest (j .number) k low (j .own) (j .lower))
+  joined =
+      lowest-same (either FaultsBefore (fault count)) FaultsAfter k joined-into joined-onto
+      (lowest-lower FaultsBefore (fault count) lowest (j .number) k low (j .own) (j .lower))
 
   pub joined-next : Lowest (either S (ofSome (λ i. i < count + 1) fault)) k
   joined-next = subst (λ (c : ℕ). Lowest (either S (ofSome (λ i. i < c) fault)) k) (sym (add-one count)) joined
@@ -171,7 +176,8 @@ module _ (n g r : ℕ) (bytes : List ℕ) where
   later k (inr (inr (i, (l, f)))) = inr (omega (arith, wanted-is n r (planOf n (n - g) (planAt n bytes i)) k f))
 
   pub plans-sizes : (k : ℕ) → (k ≡ 0 → ⊥) → k ≤ 3 → Lowest (sizeFaults n g r) k → Lowest (wantedPlansFaults n g r bytes) k
-  plans-sizes k some low l = lowest-at (wantedPlansFaults n g r bytes) k (omega arith) (⊎-elim (λ s. inl (inl s)) (λ f. inr (inl f)) (l .applies (omega arith)))
+  plans-sizes k some low l =
+      lowest-at (wantedPlansFaults n g r bytes) k (omega arith) (⊎-elim (λ s. inl (inl s)) (λ f. inr (inl f)) (l .applies (omega arith)))
       (λ j f. ⊎-elim (λ s. l .least j s .1) (λ h. omega arith) (later j f))
 
   pub plans-four : Lowest (sizeFaults n g r) 0 → ((count : ℕ) → length bytes ≡ planStart n count → ⊥) → Lowest (wantedPlansFaults n g r bytes) 4

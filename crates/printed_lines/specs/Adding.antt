@@ -14,10 +14,10 @@ use lib.ListN.{length, getD, take, drop, set, length-set, length-append}
 use lib.Seq.{take-suc, take-suc-set, take-length, drop-drop, drop-set-lt}
 use Rattle.regular.specs.Book.{each}
 use Rattle.regular.specs.Pattern.{ofLength}
-use Rattle.printed_lines.specs.Text.{Adds, digitsUpTo, decimal, next, columnsText, countsText}
+use Rattle.printed_lines.specs.Text.{TextAdded, digitsUpTo, decimal, next, columnsText, countsText}
 
 -- nothing was added yet
-pub adds-none : (xs : List ℕ) (at : ℕ) → Adds xs xs at [] at
+pub adds-none : (xs : List ℕ) (at : ℕ) → TextAdded xs xs at [] at
 adds-none xs at = record { text = sym (append-nil (take at xs)); place = omega arith; rest = refl; size = refl }
 
 -- what is untouched from a place on is so from a later one
@@ -27,7 +27,8 @@ later xs ys i j h e =
     subst (λ (p : ℕ). drop p ys ≡ drop p xs) k (sym (drop-drop (j - i) i ys) ∙ ap (drop (j - i)) e ∙ drop-drop (j - i) i xs)
 
 -- one byte more
-adds-byte : (xs ys : List ℕ) (at : ℕ) (t : List ℕ) (end b : ℕ) → Adds xs ys at t end → end < length ys → Adds xs (set ys end b) at (t ++ (b ∷ [])) (end + 1)
+adds-byte : (xs ys : List ℕ) (at : ℕ) (t : List ℕ) (end b : ℕ) → TextAdded xs ys at t end → end < length ys
+    → TextAdded xs (set ys end b) at (t ++ (b ∷ [])) (end + 1)
 adds-byte xs ys at t end b a h =
     record {
       text =
@@ -39,7 +40,7 @@ adds-byte xs ys at t end b a h =
     }
 
 -- text after text
-pub adds-more : {xs ys zs : List ℕ} {at mid end : ℕ} {t u : List ℕ} → Adds xs ys at t mid → Adds ys zs mid u end → Adds xs zs at (t ++ u) end
+pub adds-more : {xs ys zs : List ℕ} {at mid end : ℕ} {t u : List ℕ} → TextAdded xs ys at t mid → TextAdded ys zs mid u end → TextAdded xs zs at (t ++ u) end
 adds-more {xs} {ys} {zs} {at} {mid} {end} {t} {u} a b =
     record {
       text = b .text ∙ ap (λ (l : List ℕ). l ++ u) (a .text) ∙ append-assoc (take at xs) t u;
@@ -48,17 +49,17 @@ adds-more {xs} {ys} {zs} {at} {mid} {end} {t} {u} a b =
       size = b .size ∙ a .size;
     }
 
-pub adds-is : {xs ys : List ℕ} {at end : ℕ} {t u : List ℕ} → t ≡ u → Adds xs ys at t end → Adds xs ys at u end
-adds-is {xs} {ys} {at} {end} e a = subst (λ (l : List ℕ). Adds xs ys at l end) e a
+pub adds-is : {xs ys : List ℕ} {at end : ℕ} {t u : List ℕ} → t ≡ u → TextAdded xs ys at t end → TextAdded xs ys at u end
+adds-is {xs} {ys} {at} {end} e a = subst (λ (l : List ℕ). TextAdded xs ys at l end) e a
 
 -- a turn of the loop over a text, and its end
-pub text-turn : (xs ys : List ℕ) (at : ℕ) (text : List ℕ) (i end : ℕ) → i < length text → end < length ys → Adds xs ys at (take i text) end
-    → Adds xs (set ys end (getD text i 0)) at (take (i + 1) text) (end + 1)
+pub text-turn : (xs ys : List ℕ) (at : ℕ) (text : List ℕ) (i end : ℕ) → i < length text → end < length ys → TextAdded xs ys at (take i text) end
+    → TextAdded xs (set ys end (getD text i 0)) at (take (i + 1) text) (end + 1)
 text-turn xs ys at text i end h l a =
     adds-is (sym (take-suc text i 0 h) ∙ ap (λ (k : ℕ). take k text) (sym (add-one i))) (adds-byte xs ys at (take i text) end (getD text i 0) a l)
 
-pub text-all : (xs ys : List ℕ) (at : ℕ) (text : List ℕ) (i end : ℕ) → i ≤ length text → length text ≤ i → Adds xs ys at (take i text) end
-    → Adds xs ys at text end
+pub text-all : (xs ys : List ℕ) (at : ℕ) (text : List ℕ) (i end : ℕ) → i ≤ length text → length text ≤ i → TextAdded xs ys at (take i text) end
+    → TextAdded xs ys at text end
 text-all xs ys at text i end h l a =
     let e : i ≡ length text = omega arith in
     adds-is (ap (λ (k : ℕ). take k text) e ∙ take-length text) a
@@ -137,27 +138,27 @@ pub next-short : (k x : ℕ) → x < 10 ^ suc k → length (next x) ≤ suc (suc
 next-short k x h = omega (arith, short-digits 20 k x h, length-append (32 ∷ []) (decimal x))
 
 -- numbers, each after a space: none yet, one column more, the count of one length more
-pub columns-none : (xs : List ℕ) (at : ℕ) (columns : List ℕ) → Adds xs xs at (columnsText 0 columns) at
+pub columns-none : (xs : List ℕ) (at : ℕ) (columns : List ℕ) → TextAdded xs xs at (columnsText 0 columns) at
 unfolding each
 columns-none xs at columns = adds-none xs at
 
-pub counts-none : (xs : List ℕ) (at : ℕ) (counts : List ℕ) → Adds xs xs at (countsText 2 counts) at
+pub counts-none : (xs : List ℕ) (at : ℕ) (counts : List ℕ) → TextAdded xs xs at (countsText 2 counts) at
 unfolding each
 counts-none xs at counts = adds-none xs at
 
-part-more : {xs ys zs : List ℕ} {at mid end : ℕ} (part : ℕ → List ℕ) (k : ℕ) → Adds xs ys at (each part k) mid → Adds ys zs mid (part k) end
-    → Adds xs zs at (each part (suc k)) end
+part-more : {xs ys zs : List ℕ} {at mid end : ℕ} (part : ℕ → List ℕ) (k : ℕ) → TextAdded xs ys at (each part k) mid → TextAdded ys zs mid (part k) end
+    → TextAdded xs zs at (each part (suc k)) end
 unfolding each
 part-more part k a b = adds-more a b
 
-pub column-turn : {xs ys zs : List ℕ} {at mid end : ℕ} (columns : List ℕ) (f : ℕ) → Adds xs ys at (columnsText f columns) mid
-    → Adds ys zs mid (next (getD columns f 0)) end
-    → Adds xs zs at (columnsText (f + 1) columns) end
+pub column-turn : {xs ys zs : List ℕ} {at mid end : ℕ} (columns : List ℕ) (f : ℕ) → TextAdded xs ys at (columnsText f columns) mid
+    → TextAdded ys zs mid (next (getD columns f 0)) end
+    → TextAdded xs zs at (columnsText (f + 1) columns) end
 column-turn columns f a b = adds-is (ap (λ (k : ℕ). columnsText k columns) (sym (add-one f))) (part-more (λ i. next (getD columns i 0)) f a b)
 
-pub count-turn : {xs ys zs : List ℕ} {at mid end : ℕ} (counts : List ℕ) (l : ℕ) → 2 ≤ l → Adds xs ys at (countsText l counts) mid
-    → Adds ys zs mid (next (getD counts l 0)) end
-    → Adds xs zs at (countsText (l + 1) counts) end
+pub count-turn : {xs ys zs : List ℕ} {at mid end : ℕ} (counts : List ℕ) (l : ℕ) → 2 ≤ l → TextAdded xs ys at (countsText l counts) mid
+    → TextAdded ys zs mid (next (getD counts l 0)) end
+    → TextAdded xs zs at (countsText (l + 1) counts) end
 count-turn counts l low a b =
     let part : ℕ → List ℕ = λ i. next (ofLength counts (3 + i)) in
     let place : l ≡ 3 + (l - 2) - 1 = omega arith in

@@ -86,7 +86,7 @@ abbrev pub outputRoom : ℕ
 outputRoom = headerMost + 1024 * entryMost + 15
 
 -- the text t was added to the list `before` at place `at`, and ends at place `end` of `after`; the bytes past it are untouched
-pub record Adds (before after : List ℕ) (at : ℕ) (t : List ℕ) (end : ℕ) : Type 0 where
+pub record TextAdded (before after : List ℕ) (at : ℕ) (t : List ℕ) (end : ℕ) : Type 0 where
   pub text : take end after ≡ take at before ++ t
   pub place : end ≡ at + length t
   pub rest : drop end after ≡ drop end before
@@ -98,4 +98,4 @@ pub record EntryLine (n g place : ℕ) (d : Design) (before after : List ℕ) (a
   pub pattern : List ℕ
   pub is-resolution : Resolution n (planOf n (n - g) (d .columns)) resolution
   pub is-pattern : Pattern n (planOf n (n - g) (d .columns)) pattern
-  pub text : Adds before after at (entry n place resolution (d .columns) pattern) end
+  pub text : TextAdded before after at (entry n place resolution (d .columns) pattern) end

@@ -8,7 +8,7 @@ use Rattle.regular.specs.Refusals.{Lowest}
 use Rattle.regular.specs.Designs.{blank}
 use Rattle.regular.specs.Catalogues.{catalogueFaults, ListsDesigns}
 use Rattle.regular.specs.declared.Design.{Design}
-use Rattle.printed_lines.specs.Text.{Adds, EntryLine, headerLine, refused}
+use Rattle.printed_lines.specs.Text.{TextAdded, EntryLine, headerLine, refused}
 use Rattle.printing.specs.Output.{Lines, printedFaults, SizeOutput, Printed, EntryLines}
 use Rattle.printing.specs.Counting.{counts}
 use Rattle.printed_lines.specs.Adding.{adds-none, adds-more}
@@ -42,17 +42,18 @@ pub lines-all : {n g place count : ℕ} {list : List Design} {xs ys : List ℕ} 
 lines-all {n} {g} {list = list} {xs} {ys} {at} {end} l e = subst (λ (k : ℕ). EntryLines n g k list xs ys at end) e l
 
 -- a text that stands at the start of a list
-pub printed : (P : List ℕ → Type 0) {xs ys t : List ℕ} {k : ℕ} → Adds xs ys 0 t k → k ≤ length xs → P t → Printed P xs ys k
+pub printed : (P : List ℕ → Type 0) {xs ys t : List ℕ} {k : ℕ} → TextAdded xs ys 0 t k → k ≤ length xs → P t → Printed P xs ys k
 printed P {xs} {ys} {t} {k} a h p = record { counts = counts k ys (omega (arith, a .size, h)); text = subst P (sym (a .text)) p; rest = a .rest }
 
 module _ {n g r : ℕ} {d : Design} {zs : List Design} {number count : ℕ} (l : ListsDesigns n g r (replicate 1024 d) zs number count) where
   lowest : Lowest (printedFaults n g r) number
   lowest = subst (λ (m : ℕ). Lowest (catalogueFaults n g r (λ k. k ≤ m)) number) (length-replicate 1024 d) (l .catalogues .lowest)
 
-  pub refused-output : {xs ys : List ℕ} {k : ℕ} → (number ≡ 0 → ⊥) → Adds xs ys 0 (refused number) k → k ≤ length xs → Printed (SizeOutput n g r) xs ys k
+  pub refused-output : {xs ys : List ℕ} {k : ℕ} → (number ≡ 0 → ⊥) → TextAdded xs ys 0 (refused number) k → k ≤ length xs → Printed (SizeOutput n g r) xs ys k
   refused-output h a fits = printed (SizeOutput n g r) a fits (SizeOutput.refusal number (omega (arith, h)) lowest)
 
-  pub listing-output : {xs ys ws : List ℕ} {m k : ℕ} → number ≡ 0 → Adds xs ys 0 (headerLine n g r count) m → EntryLines n g count zs ys ws m k → k ≤ length xs
+  pub listing-output : {xs ys ws : List ℕ} {m k : ℕ} → number ≡ 0 → TextAdded xs ys 0 (headerLine n g r count) m
+      → EntryLines n g count zs ys ws m k → k ≤ length xs
       → Printed (SizeOutput n g r) xs ws k
   listing-output e a b fits =
       printed (SizeOutput n g r) (adds-more a (b .text)) fits

@@ -13,7 +13,7 @@ use Rattle.regular.specs.Designs.{blank}
 use Rattle.regular.specs.declared.Design.{Design}
 use Rattle.size_lines.specs.Lines.{SizeLine}
 use Rattle.printed_lines.specs.Listed.{Listable}
-use Rattle.printed_lines.specs.Text.{headerLine, entry, refused, notASize, Adds}
+use Rattle.printed_lines.specs.Text.{headerLine, entry, refused, notASize, TextAdded}
 
 -- the lines of the first k of these entries, in order: each has its place, from 1, the resolution of its plan, its columns, and the counts of its plan
 pub data Lines (n g : ℕ) (columns : ℕ → List ℕ) : ℕ → List ℕ → Type 0 where
@@ -55,7 +55,7 @@ columnsAt list i = getD list i blank .columns
 pub record EntryLines (n g k : ℕ) (list : List Design) (before after : List ℕ) (at end : ℕ) : Type 0 where
   pub lines : List ℕ
   pub are : Lines n g (columnsAt list) k lines
-  pub text : Adds before after at lines end
+  pub text : TextAdded before after at lines end
 
 -- the first count designs of a list are entries
 abbrev pub AllListable : ℕ → ℕ → ℕ → List Design → Type 0

@@ -9,6 +9,7 @@ use libc::STDOUT_FILENO;
 use regular::Compared;
 use regular::Design;
 use regular::DesignAnswer;
+use regular::FACTORS;
 use regular::ResolutionAnswer;
 use regular::RunsAnswer;
 use regular::SmallestAnswer;
@@ -93,7 +94,7 @@ fn copy_bytes(list: &[u16], p: usize, bytes: &mut [u8])
 fn design_at(list: &[u16], p: usize) -> Design
     requires { ⌜ p ≤ 500 ⌝ }
 {
-    let mut columns = [0u8; 16];
+    let mut columns = [0u8; FACTORS];
     copy_bytes(list, p + 2, &mut columns);
     let factors = bits::as_index(byte_at(list, p));
     let basics = bits::as_index(byte_at(list, p + 1));

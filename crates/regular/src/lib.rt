@@ -1,11 +1,21 @@
 // The definitions of document 01, in specs/, and the types that its calls hand around.
 
+// The most factors, basic factors and runs of a plan.
+pub const FACTORS: usize = 16;
+
+pub const BASICS: usize = 7;
+
+pub const RUNS: usize = 128;
+
+// How many numbers a column may be: those of seven bits, one for each basic factor.
+pub const NUMBERS: usize = 128;
+
 // A design record: the factor count, the basic count and sixteen columns, those past the factor count being zero.
 #[repr(C)]
 pub struct Design {
     pub factors: u8,
     pub basics: u8,
-    pub columns: [u8; 16],
+    pub columns: [u8; FACTORS],
 }
 
 // A refusal's number, 0 if accepted, and the design; the blank design if refused.
@@ -17,7 +27,7 @@ pub struct DesignAnswer {
 // A refusal's number, 0 if accepted, and the run table, its unused places zero; all zero if refused.
 pub struct RunsAnswer {
     pub number: u8,
-    pub runs: [u16; 128],
+    pub runs: [u16; RUNS],
 }
 
 // A refusal's number, 0 if accepted, and the resolution; 0 if refused.
@@ -29,7 +39,7 @@ pub struct ResolutionAnswer {
 // Whether the standard columns of a plan were found, and they; sixteen zeros if not.
 pub struct Standardized {
     pub ok: bool,
-    pub columns: [u8; 16],
+    pub columns: [u8; FACTORS],
 }
 
 // A refusal's number, 0 if accepted, the run that the plan starts from, and the standard columns of the plan with that run switched to 0; all zero if
@@ -37,7 +47,7 @@ pub struct Standardized {
 pub struct Admitted {
     pub number: u8,
     pub run: u16,
-    pub columns: [u8; 16],
+    pub columns: [u8; FACTORS],
 }
 
 // A refusal's number, 0 if accepted, the smallest form as a design record, the mask of the witness to it, and its first place in a lent list of

@@ -7,7 +7,7 @@ use native.Mathlib.Nat.{not-suc-le-zero, le-of-suc-le-suc}
 use lib.ListN.{length, getD}
 use native.Mathlib.Omega.{arith}
 use Rattle.gf2.specs.Truth.{clash}
-use Rattle.size_lines.specs.Lines.{Digit, Number, one, two, SizeLine, DigitIs, SpaceIs, Part, Parsed}
+use Rattle.size_lines.specs.Lines.{Digit, Number, one, two, SizeLine, DigitIs, SpaceIs, NumberPart, Parsed}
 use Rattle.size_lines.specs.declared.LineSize.{LineSize}
 
 past : (l : List ℕ) (p : ℕ) → length l ≤ p → getD l p 0 ≡ 0
@@ -49,7 +49,7 @@ no-number : {l : List ℕ} {p d w q : ℕ} → DigitIs l p d → 9 < d → Numbe
 no-number D h (one x X) = D .none h x X
 no-number D h (two x y X Y) = D .none h x X
 
-pub no-digit : (l : List ℕ) (p d : ℕ) → DigitIs l p d → 9 < d → Part l p 0 p
+pub no-digit : (l : List ℕ) (p d : ℕ) → DigitIs l p d → 9 < d → NumberPart l p 0 p
 no-digit l p d D h =
     record {
       low = omega arith;
@@ -69,7 +69,7 @@ only-one : {l : List ℕ} {p d e : ℕ} → DigitIs l p d → d < 10 → DigitIs
 only-one D h E k w q (one x X) = (omega arith, same D h X, refl)
 only-one D h E k w q (two x y X Y) = absurd (E .none k y Y)
 
-pub one-digit : (l : List ℕ) (p d e : ℕ) → DigitIs l p d → d < 10 → DigitIs l (p + 1) e → 9 < e → Part l p d (p + 1)
+pub one-digit : (l : List ℕ) (p d e : ℕ) → DigitIs l p d → d < 10 → DigitIs l (p + 1) e → 9 < e → NumberPart l p d (p + 1)
 one-digit l p d e D h E k =
     record {
       low = omega arith;
@@ -83,7 +83,7 @@ only-two : {l : List ℕ} {p d e : ℕ} → DigitIs l p d → d < 10 → DigitIs
 only-two {e = e} D h E k w q (one x X) n = absurd (n e (is E k))
 only-two D h E k w q (two x y X Y) n = let a = same D h X in let b = same E k Y in (omega arith, omega (arith, a, b), refl)
 
-pub two-digits : (l : List ℕ) (p d e : ℕ) → DigitIs l p d → d < 10 → DigitIs l (p + 1) e → e < 10 → Part l p (10 * d + e) (p + 2)
+pub two-digits : (l : List ℕ) (p d e : ℕ) → DigitIs l p d → d < 10 → DigitIs l (p + 1) e → e < 10 → NumberPart l p (10 * d + e) (p + 2)
 two-digits l p d e D h E k =
     record {
       low = omega arith;
@@ -96,13 +96,13 @@ two-digits l p d e D h E k =
 not-a-digit : {l : List ℕ} {q : ℕ} → getD l q 0 ≡ 32 → (x : ℕ) → Digit l q x → ⊥
 not-a-digit h x d = let b = d .byte in omega (arith, h, b)
 
-at-1 : {l : List ℕ} {x y z v e : ℕ} → Part l 0 v e → (s : SizeLine l x y z) → (0 < e) × (x ≡ v) × (s .a ≡ e)
+at-1 : {l : List ℕ} {x y z v e : ℕ} → NumberPart l 0 v e → (s : SizeLine l x y z) → (0 < e) × (x ≡ v) × (s .a ≡ e)
 at-1 P s = P .only _ _ (s .first) (not-a-digit (s .space1))
 
-at-2 : {l : List ℕ} {x y z v e f : ℕ} → Part l (e + 1) v f → (s : SizeLine l x y z) → s .a ≡ e → (e + 1 < f) × (y ≡ v) × (s .b ≡ f)
+at-2 : {l : List ℕ} {x y z v e f : ℕ} → NumberPart l (e + 1) v f → (s : SizeLine l x y z) → s .a ≡ e → (e + 1 < f) × (y ≡ v) × (s .b ≡ f)
 at-2 {l = l} {y = y} P s h = P .only _ _ (subst (λ (k : ℕ). Number l (k + 1) y (s .b)) h (s .second)) (not-a-digit (s .space2))
 
-at-3 : {l : List ℕ} {x y z v f k : ℕ} → Part l (f + 1) v k → (s : SizeLine l x y z) → s .b ≡ f → (f + 1 < k) × (z ≡ v) × (length l ≡ k)
+at-3 : {l : List ℕ} {x y z v f k : ℕ} → NumberPart l (f + 1) v k → (s : SizeLine l x y z) → s .b ≡ f → (f + 1 < k) × (z ≡ v) × (length l ≡ k)
 at-3 {l = l} {z = z} P s h =
     P .only _ _ (subst (λ (k : ℕ). Number l (k + 1) z (length l)) h (s .third))
     (λ x d. let o = past l (length l) (omega arith) in let b = d .byte in omega (arith, o, b))
@@ -120,26 +120,26 @@ refuse l s h none =
     }
 
 -- where the reader stops
-pub no-1 : (l : List ℕ) (v e : ℕ) → Part l 0 v e → e ≡ 0 → None l
+pub no-1 : (l : List ℕ) (v e : ℕ) → NumberPart l 0 v e → e ≡ 0 → None l
 no-1 l v e P h x y z s = let a = at-1 P s .0 in omega (arith, a, h)
 
-pub no-2 : (l : List ℕ) (v e : ℕ) → Part l 0 v e → {b : Bool} → SpaceIs l e b → b ≡ false → None l
+pub no-2 : (l : List ℕ) (v e : ℕ) → NumberPart l 0 v e → {b : Bool} → SpaceIs l e b → b ≡ false → None l
 no-2 l v e P S h x y z s = S .none h (subst (λ (k : ℕ). getD l k 0 ≡ 32) (at-1 P s .2) (s .space1))
 
-pub no-3 : (l : List ℕ) (v e w f : ℕ) → Part l 0 v e → Part l (e + 1) w f → f ≡ e + 1 → None l
+pub no-3 : (l : List ℕ) (v e w f : ℕ) → NumberPart l 0 v e → NumberPart l (e + 1) w f → f ≡ e + 1 → None l
 no-3 l v e w f P Q h x y z s = let a = at-2 Q s (at-1 P s .2) .0 in omega (arith, a, h)
 
-pub no-4 : (l : List ℕ) (v e w f : ℕ) → Part l 0 v e → Part l (e + 1) w f → {b : Bool} → SpaceIs l f b → b ≡ false → None l
+pub no-4 : (l : List ℕ) (v e w f : ℕ) → NumberPart l 0 v e → NumberPart l (e + 1) w f → {b : Bool} → SpaceIs l f b → b ≡ false → None l
 no-4 l v e w f P Q S h x y z s = S .none h (subst (λ (k : ℕ). getD l k 0 ≡ 32) (at-2 Q s (at-1 P s .2) .2) (s .space2))
 
-pub no-5 : (l : List ℕ) (v e w f u k : ℕ) → Part l 0 v e → Part l (e + 1) w f → Part l (f + 1) u k → k ≡ f + 1 → None l
+pub no-5 : (l : List ℕ) (v e w f u k : ℕ) → NumberPart l 0 v e → NumberPart l (e + 1) w f → NumberPart l (f + 1) u k → k ≡ f + 1 → None l
 no-5 l v e w f u k P Q R h x y z s = let a = at-3 R s (at-2 Q s (at-1 P s .2) .2) .0 in omega (arith, a, h)
 
-pub no-6 : (l : List ℕ) (v e w f u k : ℕ) → Part l 0 v e → Part l (e + 1) w f → Part l (f + 1) u k → (k ≡ length l → ⊥) → None l
+pub no-6 : (l : List ℕ) (v e w f u k : ℕ) → NumberPart l 0 v e → NumberPart l (e + 1) w f → NumberPart l (f + 1) u k → (k ≡ length l → ⊥) → None l
 no-6 l v e w f u k P Q R h x y z s = h (sym (at-3 R s (at-2 Q s (at-1 P s .2) .2) .2))
 
 -- all three are there
-pub gives : (l : List ℕ) (v e w f u k : ℕ) → Part l 0 v e → Part l (e + 1) w f → Part l (f + 1) u k → 0 < e → e + 1 < f → f + 1 < k
+pub gives : (l : List ℕ) (v e w f u k : ℕ) → NumberPart l 0 v e → NumberPart l (e + 1) w f → NumberPart l (f + 1) u k → 0 < e → e + 1 < f → f + 1 < k
     → getD l e 0 ≡ 32 → getD l f 0 ≡ 32 → k ≡ length l → Parsed l true v w u
 gives l v e w f u k P Q R h i j S T z =
     record {

@@ -37,7 +37,7 @@ pub record SpaceIs (line : List ℕ) (p : ℕ) (is : Bool) : Type 0 where
   pub none : is ≡ false → getD line p 0 ≡ 32 → ⊥
 
 -- the number v from place p to e, none if e is p; it is the only one that no digit follows
-pub record Part (line : List ℕ) (p v e : ℕ) : Type 0 where
+pub record NumberPart (line : List ℕ) (p v e : ℕ) : Type 0 where
   pub low : p ≤ e
   pub high : e ≤ p + 2
   pub some : p < e → Number line p v e

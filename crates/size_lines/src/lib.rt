@@ -2,7 +2,7 @@
 ghost use mathlib.Core.Path.{_≡_};
 ghost use mathlib.Core.Bool.{false};
 ghost use Prim.Native.Nat.{_≤_};
-ghost use Rattle.size_lines.specs.Lines.{DigitIs, SpaceIs, Part, Parsed};
+ghost use Rattle.size_lines.specs.Lines.{DigitIs, SpaceIs, NumberPart, Parsed};
 use bits::as_index;
 
 // A number of one or two digits, and the place after it.
@@ -52,7 +52,7 @@ fn space(line: &[u8], p: usize) -> bool
 // The number from place p on, of two digits where two stand there; it ends at p if there is none.
 fn number(line: &[u8], p: usize) -> Numeral
     requires { ⌜ p ≤ 6 ⌝ }
-    ensures { λ r. ⌜ Part (now (line .entry)) p (r .value) (r .end) ⌝ }
+    ensures { λ r. ⌜ NumberPart (now (line .entry)) p (r .value) (r .end) ⌝ }
 {
     let d = digit(line, p);
     if 9 < d {

@@ -168,7 +168,8 @@ module _ (n g : ℕ) (plans : List ℕ) (low : Lowest (plansFaults n g plans) 0)
             (reduced-more form names (subst (λ (c : List ℕ). ReducedForm n g c form names) (turn-part plans) r))))
 
 -- the call's answer
-pub each-refused : (n g : ℕ) (plans out entry : List ℕ) (k : ℕ) → (k ≡ 0 → ⊥) → Lowest (eachFaults n g plans out entry) k → ReducesEach n g plans out out entry entry k
+pub each-refused : (n g : ℕ) (plans out entry : List ℕ) (k : ℕ) → (k ≡ 0 → ⊥) → Lowest (eachFaults n g plans out entry) k
+    → ReducesEach n g plans out out entry entry k
 each-refused n g plans out entry k some low = record {
   lowest = low;
   untouched = λ _. (refl, refl);

@@ -70,18 +70,21 @@ module _ {n g : ℕ} {p : Given} {other : ℕ} {ys zs : List ℕ} {form : Smalle
       let lent = LentFault n ys in
       lowest-moved (besides n p other ys) (either (either (p .faults) H) lent) (form .number)
       (same-lowest-either (either (p .faults) (numbered other)) lent (either (p .faults) H) lent
-      (same-lowest-either (p .faults) (numbered other) (p .faults) H (same-lowest-refl (p .faults)) (lowest-same-lowest (numbered other) H other (lowest-numbered other) low))
+      (same-lowest-either (p .faults) (numbered other) (p .faults) H (same-lowest-refl (p .faults))
+      (lowest-same-lowest (numbered other) H other (lowest-numbered other) low))
       (same-lowest-refl lent)) (f .made .number)
 
 -- nothing is at fault: the form is accepted
-pub formed-accepted : {n g : ℕ} {p : Given} {ys zs : List ℕ} {form : SmallestAnswer} → ReducesBeside n g p 0 ys zs form → Lowest (p .faults) 0 → n ≤ length ys → form .number ≡ 0
+pub formed-accepted : {n g : ℕ} {p : Given} {ys zs : List ℕ} {form : SmallestAnswer} → ReducesBeside n g p 0 ys zs form → Lowest (p .faults) 0
+    → n ≤ length ys → form .number ≡ 0
 formed-accepted {n} {g} {p} {ys} {zs} {form} f low h =
     lowest-unique (besides n p 0 ys) (form .number) 0 (f .made .number)
     (lowest-then (either (p .faults) (numbered 0)) (LentFault n ys) 0 (lowest-then (p .faults) (numbered 0) 0 low (lowest-numbered 0)) (lent-fits n ys h))
 
 -- in a list of records
 pub formed-among : {n g : ℕ} {p : Given} {other : ℕ} {ys zs : List ℕ} {form : SmallestAnswer} (list : List Design)
-    → Lowest (recordsFaults n g list) other → ReducesBeside n g p other ys zs form → (place : ℕ) (r : SmallestAnswer) → DesignPlace list (form .design) place → WithPlace form place r
+    → Lowest (recordsFaults n g list) other → ReducesBeside n g p other ys zs form → (place : ℕ) (r : SmallestAnswer) → DesignPlace list (form .design) place
+    → WithPlace form place r
     → ReducesAmong n g p list ys zs r
 formed-among {n} {g} {p} {other} {ys} {zs} {form} list low f place r at q =
     let b = f .made in
@@ -98,17 +101,20 @@ formed-among {n} {g} {p} {other} {ys} {zs} {form} list low f place r at q =
     })
 
 -- an accepted form's columns in a lent list
-pub lent-form : {n m : ℕ} {p : Given} {c names out filled : List ℕ} {mask : ℕ} → Formed n m p c names mask → Lent n c out filled → Formed n m p filled names mask
+pub lent-form : {n m : ℕ} {p : Given} {c names out filled : List ℕ} {mask : ℕ} → Formed n m p c names mask → Lent n c out filled
+    → Formed n m p filled names mask
 lent-form {n} {m} {p} {c} {names} {out} {filled} {mask} f l =
     let same : Equal n c filled = λ k h. sym (l .places k h) in
     record {
       smallest = smallest-equal n m c filled same (p .plan) (f .smallest);
-      witness = carries-agree n (p .plan) (p .plan) (planOf n m c) (planOf n m filled) names mask (record { into = λ x h. h; onto = λ x h. h }) (plan-equal n m c filled same) (f .witness);
+      witness = carries-agree n (p .plan) (p .plan) (planOf n m c) (planOf n m filled) names mask (record { into = λ x h. h; onto = λ x h. h })
+          (plan-equal n m c filled same) (f .witness);
       start = f .start;
     }
 
 pub formed-into : {n g : ℕ} {p : Given} {list out : List ℕ} {other : ℕ} {ys zs : List ℕ} {form : SmallestAnswer}
-    → Lowest (either (plansFaults n g list) (LentFault n out)) other → ReducesBeside n g p other ys zs form → (filled : List ℕ) (r : FormAnswer) → PlacedInto n list form out filled r
+    → Lowest (either (plansFaults n g list) (LentFault n out)) other → ReducesBeside n g p other ys zs form → (filled : List ℕ) (r : FormAnswer)
+    → PlacedInto n list form out filled r
     → ReducesInto n g p list out filled ys zs r
 formed-into {n} {g} {p} {list} {out} {other} {ys} {zs} {form} low f filled r q =
     let b = f .made in

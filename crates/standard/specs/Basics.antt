@@ -23,28 +23,28 @@ use Rattle.standard.specs.Coordinates.{coord-lt, coord-xor}
 use Rattle.standard.specs.Model.{coordOf, fitsAll, firstFrom, firstFit, choose, basicsAt, columnAt}
 
 -- column k gives factor f its level in every run of u
-abbrev pub Fits : List ℕ → List ℕ → ℕ → ℕ → Type 0
-Fits bs u f k = (x : ℕ) → In x u → bit f x ≡ odd (coordOf bs x) k
+abbrev pub ColumnFits : List ℕ → List ℕ → ℕ → ℕ → Type 0
+ColumnFits bs u f k = (x : ℕ) → In x u → bit f x ≡ odd (coordOf bs x) k
 
-pub fits-all : (bs u : List ℕ) (f k : ℕ) → fitsAll bs u f k ≡ true → Fits bs u f k
+pub fits-all : (bs u : List ℕ) (f k : ℕ) → fitsAll bs u f k ≡ true → ColumnFits bs u f k
 unfolding fitsAll
 fits-all bs [] f k e x m = absurd m
 fits-all bs (y ∷ u) f k e x (inl p) =
     rw p (eqb-true _ _ (and-both (eqb (bit f y) (odd (coordOf bs y) k)) (fitsAll bs u f k) e .0))
 fits-all bs (y ∷ u) f k e x (inr m) = fits-all bs u f k (and-both (eqb (bit f y) (odd (coordOf bs y) k)) (fitsAll bs u f k) e .1) x m
 
-all-fits : (bs u : List ℕ) (f k : ℕ) → Fits bs u f k → fitsAll bs u f k ≡ true
+all-fits : (bs u : List ℕ) (f k : ℕ) → ColumnFits bs u f k → fitsAll bs u f k ≡ true
 unfolding fitsAll
 all-fits bs [] f k h = refl
 all-fits bs (y ∷ u) f k h = rw (eq-eqb _ _ (h y (inl refl))) (all-fits bs u f k (λ x m. h x (inr m)))
 
 -- r is the first of k, .., e - 1 that fits, or e if none does
-abbrev pub First : List ℕ → List ℕ → ℕ → ℕ → ℕ → ℕ → Type 0
-First bs u f k e r =
+abbrev pub FirstFit : List ℕ → List ℕ → ℕ → ℕ → ℕ → ℕ → Type 0
+FirstFit bs u f k e r =
     ((r ≡ e) × ((i : ℕ) → k ≤ i → i < e → fitsAll bs u f i ≡ false)) ⊎ ((r < e) × (fitsAll bs u f r ≡ true))
 
-first-at : (bs u : List ℕ) (f fuel k : ℕ) (t : Bool) (r : ℕ) → fitsAll bs u f k ≡ t → First bs u f (suc k) (suc k + fuel) r
-    → First bs u f k (k + suc fuel) (pick t k r)
+first-at : (bs u : List ℕ) (f fuel k : ℕ) (t : Bool) (r : ℕ) → fitsAll bs u f k ≡ t → FirstFit bs u f (suc k) (suc k + fuel) r
+    → FirstFit bs u f k (k + suc fuel) (pick t k r)
 first-at bs u f fuel k true r e h = inr (omega arith, e)
 first-at bs u f fuel k false r e h =
     ⊎-elim
@@ -52,26 +52,26 @@ first-at bs u f fuel k false r e h =
     (λ o. inr (omega (arith, o .0), o .1))
     h
 
-first-is : (bs u : List ℕ) (f fuel k : ℕ) → First bs u f k (k + fuel) (firstFrom bs u f fuel k)
+first-is : (bs u : List ℕ) (f fuel k : ℕ) → FirstFit bs u f k (k + fuel) (firstFrom bs u f fuel k)
 unfolding firstFrom
 first-is bs u f zero k = inl (omega arith, λ i p q. absurd (omega arith))
 first-is bs u f (suc fuel) k = first-at bs u f fuel k (fitsAll bs u f k) (firstFrom bs u f fuel (suc k)) refl (first-is bs u f fuel (suc k))
 
-pub first-fit : (bs u : List ℕ) (f : ℕ) → First bs u f 0 (2 ^ length bs) (firstFit bs u f)
+pub first-fit : (bs u : List ℕ) (f : ℕ) → FirstFit bs u f 0 (2 ^ length bs) (firstFit bs u f)
 first-fit bs u f =
     let e : 0 + 2 ^ length bs ≡ 2 ^ length bs = omega arith in
-    subst (λ (n : ℕ). First bs u f 0 n (firstFit bs u f)) e (first-is bs u f (2 ^ length bs) 0)
+    subst (λ (n : ℕ). FirstFit bs u f 0 n (firstFit bs u f)) e (first-is bs u f (2 ^ length bs) 0)
 
 -- every choice of levels of the basic factors occurs
 abbrev pub Onto : List ℕ → List ℕ → Type 0
 Onto bs u = (j : ℕ) → j < 2 ^ length bs → (x : ℕ) × (In x u × (coordOf bs x ≡ j))
 
 -- one more basic factor
-pub fits-keep : (bs u : List ℕ) (p f k : ℕ) → k < 2 ^ length bs → Fits bs u f k → Fits (p ∷ bs) u f k
+pub fits-keep : (bs u : List ℕ) (p f k : ℕ) → k < 2 ^ length bs → ColumnFits bs u f k → ColumnFits (p ∷ bs) u f k
 unfolding coordOf
 fits-keep bs u p f k h fit x m = fit x m ∙ sym (odd-keep (length bs) (bit p x) (coordOf bs x) k (coord-lt bs x) h)
 
-pub fits-fresh : (bs u : List ℕ) (f : ℕ) → Fits (f ∷ bs) u f (2 ^ length bs)
+pub fits-fresh : (bs u : List ℕ) (f : ℕ) → ColumnFits (f ∷ bs) u f (2 ^ length bs)
 unfolding coordOf
 fits-fresh bs u f x m = sym (odd-fresh (length bs) (bit f x) (coordOf bs x) (omega arith) (coord-lt bs x))
 
@@ -101,7 +101,7 @@ module _ (u : List ℕ) (closed : (x y : ℕ) → In x u → In y u → In (bitX
         (lift (bitXor a b) .1 .1 ∙ xor-mod a b (length bs) ∙ sym (ap₂ bitXor (lift a .1 .1) (lift b .1 .1)) ∙ sym (coord-xor bs (lift a .0) (lift b .0)))
         ∙ bit-xor f (lift a .0) (lift b .0)
 
-    some-fits : (k : ℕ) × ((k < 2 ^ length bs) × Fits bs u f k)
+    some-fits : (k : ℕ) × ((k < 2 ^ length bs) × ColumnFits bs u f k)
     unfolding level
     some-fits =
         let k = numberOf (length bs) level in (
@@ -156,17 +156,17 @@ module _ (u : List ℕ) (closed : (x y : ℕ) → In x u → In y u → In (bitX
 pub record After (u bs : List ℕ) (f : ℕ) : Type 0 where
   pub small : length bs ≤ f
   pub onto : Onto bs u
-  pub fits : (g : ℕ) → g < f → (columnAt u g < 2 ^ length bs) × Fits bs u g (columnAt u g)
+  pub fits : (g : ℕ) → g < f → (columnAt u g < 2 ^ length bs) × ColumnFits bs u g (columnAt u g)
 
 -- the next factor, by whether its column is the next unit
-pub record Next (u : List ℕ) (f : ℕ) (bs bs2 : List ℕ) : Type 0 where
+pub record NextFactor (u : List ℕ) (f : ℕ) (bs bs2 : List ℕ) : Type 0 where
   pub column-le : columnAt u f ≤ 2 ^ length bs
   pub units : length bs2 ≡ length bs + pick (eqb (columnAt u f) (2 ^ length bs)) 1 0
   pub after : After u bs2 (suc f)
 
 module _ (u : List ℕ) (closed : (x y : ℕ) → In x u → In y u → In (bitXor x y) u) where
-  next-at : (bs : List ℕ) (f c : ℕ) (t : Bool) → After u bs f → columnAt u f ≡ c → First bs u f 0 (2 ^ length bs) c → eqb c (2 ^ length bs) ≡ t
-      → Next u f bs (choose t (f ∷ bs) bs)
+  next-at : (bs : List ℕ) (f c : ℕ) (t : Bool) → After u bs f → columnAt u f ≡ c → FirstFit bs u f 0 (2 ^ length bs) c → eqb c (2 ^ length bs) ≡ t
+      → NextFactor u f bs (choose t (f ∷ bs) bs)
   next-at bs f c true a e fst t =
       let l = length bs in
       let q : c ≡ 2 ^ l = eqb-true c (2 ^ l) t in
@@ -180,7 +180,7 @@ module _ (u : List ℕ) (closed : (x y : ℕ) → In x u → In y u → In (bitX
           small = omega arith;
           onto = onto-next u closed bs f (a .onto) (⊎-elim (λ r i h. r .1 i (omega arith) h) (λ r i h. absurd (omega (arith, r .0))) fst);
           fits = λ g h. by-cases (ℕ-discrete g f)
-              (λ s. rw s (omega arith, subst (λ (k : ℕ). Fits (f ∷ bs) u f k) (sym (e ∙ q)) (fits-fresh bs u f)))
+              (λ s. rw s (omega arith, subst (λ (k : ℕ). ColumnFits (f ∷ bs) u f k) (sym (e ∙ q)) (fits-fresh bs u f)))
               (λ ne. let r = a .fits g (omega arith) in (omega (arith, r .0), fits-keep bs u f g (columnAt u g) (r .0) (r .1)));
         };
       }
@@ -197,12 +197,12 @@ module _ (u : List ℕ) (closed : (x y : ℕ) → In x u → In y u → In (bitX
           small = omega arith;
           onto = a .onto;
           fits = λ g h. by-cases (ℕ-discrete g f)
-              (λ s. rw s (omega arith, subst (λ (k : ℕ). Fits bs u f k) (sym e) (fits-all bs u f c (hit .1))))
+              (λ s. rw s (omega arith, subst (λ (k : ℕ). ColumnFits bs u f k) (sym e) (fits-all bs u f c (hit .1))))
               (λ ne. a .fits g (omega arith));
         };
       }
 
-  pub next-is : (f : ℕ) → After u (basicsAt u f) f → Next u f (basicsAt u f) (basicsAt u (suc f))
+  pub next-is : (f : ℕ) → After u (basicsAt u f) f → NextFactor u f (basicsAt u f) (basicsAt u (suc f))
   unfolding basicsAt columnAt
   next-is f a =
       let bs = basicsAt u f in

@@ -9,7 +9,7 @@ use Rattle.regular.specs.Runs.{Runs}
 use Rattle.standard.specs.Form.{StandardFor}
 
 -- the standard columns of s were found exactly if it is possible; places past n are 0, and all are if they were not
-pub record Found (n m : ℕ) (Possible : Type 0) (s : Runs) (ok : Bool) (a : List ℕ) : Type 0 where
+pub record StandardFound (n m : ℕ) (Possible : Type 0) (s : Runs) (ok : Bool) (a : List ℕ) : Type 0 where
   pub possible : ok ≡ true → Possible
   pub impossible : ok ≡ false → Possible → ⊥
   pub standard : ok ≡ true → StandardFor n m s a
@@ -17,7 +17,7 @@ pub record Found (n m : ℕ) (Possible : Type 0) (s : Runs) (ok : Bool) (a : Lis
   pub blank : ok ≡ false → a ≡ replicate 16 0
 
 module _ (n m : ℕ) (Possible : Type 0) (s : Runs) where
-  pub is-found : (a : List ℕ) → Possible → StandardFor n m s a → ((f : ℕ) → n ≤ f → getD a f 0 ≡ 0) → Found n m Possible s true a
+  pub is-found : (a : List ℕ) → Possible → StandardFor n m s a → ((f : ℕ) → n ≤ f → getD a f 0 ≡ 0) → StandardFound n m Possible s true a
   is-found a p st un = record {
     possible = λ _. p;
     impossible = λ e. absurd (true≢false e);
@@ -26,7 +26,7 @@ module _ (n m : ℕ) (Possible : Type 0) (s : Runs) where
     blank = λ e. absurd (true≢false e);
   }
 
-  pub not-found : (Possible → ⊥) → Found n m Possible s false (replicate 16 0)
+  pub not-found : (Possible → ⊥) → StandardFound n m Possible s false (replicate 16 0)
   not-found no-way = record {
     possible = λ e. absurd (false≢true e);
     impossible = λ _. no-way;

@@ -25,8 +25,8 @@ pub record StandardFor (n m : ℕ) (s : Runs) (a : List ℕ) : Type 0 where
   pub plan : Agree s (planOf n m a)
 
 -- no run but the first is 0
-abbrev pub Apart : ℕ → ℕ → List ℕ → Type 0
-Apart n m c = (j : ℕ) → j < 2 ^ m → runOf c n j ≡ 0 → j ≡ 0
+abbrev pub ZeroOnce : ℕ → ℕ → List ℕ → Type 0
+ZeroOnce n m c = (j : ℕ) → j < 2 ^ m → runOf c n j ≡ 0 → j ≡ 0
 
 -- no column is 0 and none stands twice: the plan has no word of fewer than three letters
 pub record DistinctNonzero (n : ℕ) (c : List ℕ) : Type 0 where

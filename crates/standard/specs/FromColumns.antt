@@ -14,12 +14,12 @@ use Rattle.regular.specs.Runs.{Table}
 use Rattle.regular.specs.Words.{total, Independent}
 use Rattle.standard.specs.FromTable.{Space}
 use Rattle.standard.specs.Model.{runTable}
-use Rattle.standard.specs.Form.{Apart}
+use Rattle.standard.specs.Form.{ZeroOnce}
 use Rattle.standard.specs.Runs.{run-lt, run-zero, run-xor, odd-total, total-lt}
 use Rattle.standard.specs.Total.{independent-once}
 
 -- columns of rank m: only run 0 is 0
-pub spans-apart : (n m : ℕ) (c : List ℕ) → Spans n m c → Apart n m c
+pub spans-apart : (n m : ℕ) (c : List ℕ) → Spans n m c → ZeroOnce n m c
 spans-apart n m c sp j hj e =
     by-parity m j 0 hj (pow-pos m)
     (λ i hi.
@@ -28,7 +28,7 @@ spans-apart n m c sp j hj e =
     ∙ odd-zero-l (s .0) ∙ sym (odd-zero-r i))
 
 -- different runs
-pub apart-inj : (n m : ℕ) (c : List ℕ) → Apart n m c → (i j : ℕ) → i < 2 ^ m → j < 2 ^ m → runOf c n i ≡ runOf c n j → i ≡ j
+pub apart-inj : (n m : ℕ) (c : List ℕ) → ZeroOnce n m c → (i j : ℕ) → i < 2 ^ m → j < 2 ^ m → runOf c n i ≡ runOf c n j → i ≡ j
 apart-inj n m c ap0 i j hi hj e =
     let z : runOf c n (bitXor i j) ≡ 0 = run-xor c n i j ∙ ap (λ (r : ℕ). bitXor r (runOf c n j)) e ∙ xor-self (runOf c n j) in
     let d : bitXor i j ≡ 0 = ap0 (bitXor i j) (xor-lt m i j hi hj) z in
@@ -55,7 +55,7 @@ module _ (n m : ℕ) (c : List ℕ) where
   runs-within : (x : ℕ) → In x runs → x < 2 ^ n
   runs-within x p = let a = of-to (runOf c n) (2 ^ m) x p in subst (λ (z : ℕ). z < 2 ^ n) (sym (a .1 .1)) (run-lt c n (a .0))
 
-  runs-space : Apart n m c → Space n runs
+  runs-space : ZeroOnce n m c → Space n runs
   runs-space ap0 =
       record {
         zero-in = subst (λ (z : ℕ). In z runs) (run-zero c n) (in-to (runOf c n) (2 ^ m) 0 (pow-pos m));
@@ -65,7 +65,7 @@ module _ (n m : ℕ) (c : List ℕ) where
       }
 
   -- the run table of columns of rank m is a regular table
-  pub runs-table : Apart n m c → Table n m runs
+  pub runs-table : ZeroOnce n m c → Table n m runs
   runs-table ap0 =
       record {
         count = to-length (runOf c n) (2 ^ m);

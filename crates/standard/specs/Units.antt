@@ -20,7 +20,7 @@ use Rattle.gf2.specs.Members.{In}
 use Rattle.regular.specs.Columns.{Below, Spans}
 use Rattle.regular.specs.Words.{total}
 use Rattle.standard.specs.Model.{choose}
-use Rattle.standard.specs.Form.{unitsBefore, StandardForm, Apart}
+use Rattle.standard.specs.Form.{unitsBefore, StandardForm, ZeroOnce}
 use Rattle.standard.specs.Runs.{run-bit}
 use Rattle.standard.specs.Total.{total-xor, total-none, total-unit}
 
@@ -100,7 +100,7 @@ module _ (n m : ℕ) (a : List ℕ) (s : StandardForm n m a) where
       (λ e. omega (arith, pow-lt {i = unitsBefore a f} {j = m} (omega (arith, units-next a f e, units-le (suc f) h))))
       (λ ne. omega (arith, s .next f h, pow-mono {i = unitsBefore a f} {j = m} (units-le f (omega arith))))
 
-  pub standard-apart : Apart n m a
+  pub standard-apart : ZeroOnce n m a
   standard-apart j hj z =
       bit-ext m j 0 hj (pow-pos m)
       (λ i h.

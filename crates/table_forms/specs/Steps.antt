@@ -19,14 +19,15 @@ use Rattle.gf2.specs.Places.{place-in, in-place}
 use Rattle.gf2.specs.Fill.{zeros, set-unused}
 use Rattle.gf2.specs.Truth.{clash}
 use Rattle.regular.specs.Runs.{Table}
-use Rattle.standard.specs.Basics.{Fits, Onto, fits-all, fits-keep, fits-fresh, onto-next}
+use Rattle.standard.specs.Basics.{ColumnFits, Onto, fits-all, fits-keep, fits-fresh, onto-next}
 use Rattle.standard.specs.Coordinates.{coord-lt}
 use Rattle.standard.specs.Form.{unitsBefore}
 use Rattle.standard.specs.FromTable.{table-space, diffs-count}
 use Rattle.standard.specs.Model.{diffs, coordOf, fitsAll}
 use Rattle.standard.specs.NextColumn.{set-column, set-next, units-more}
 use Rattle.table_forms.specs.declared.Walked.{Walked}
-use Rattle.table_forms.specs.Walk.{diffAt, Held, Latest, Alone, Read, Candidate, FitsAt, Fitting, Extended, Walk, Followed, Grown, Reached}
+use Rattle.table_forms.specs.Walk.{diffAt, LevelsHeld, Latest, Alone, Read, Candidate, FitsAt, Fitting}
+use Rattle.table_forms.specs.Walk.{LevelsExtended, TableWalk, ColumnGiven, BasicAdded, WalkReached}
 
 -- the differences are those of the places
 pub at-diff : (t : List ℕ) (i : ℕ) → i < length t → In (diffAt t i) (diffs t)
@@ -40,18 +41,18 @@ diff-at t x m =
     (p .0, (p .1 .0, o .1 .1 ∙ ap (λ (y : ℕ). bitXor y r) (p .1 .1)))
 
 -- the levels that are held are below the next unit
-held-lt : (bs t coords : List ℕ) (half : ℕ) → half ≡ 2 ^ length bs → Held bs t coords → (i : ℕ) → i < length t → getD coords i 0 < half
+held-lt : (bs t coords : List ℕ) (half : ℕ) → half ≡ 2 ^ length bs → LevelsHeld bs t coords → (i : ℕ) → i < length t → getD coords i 0 < half
 held-lt bs t coords half e held i h = omega (arith, held i h, coord-lt bs (diffAt t i))
 
 -- a column that fits every place fits every difference
-fits-places : (bs t coords : List ℕ) (f k : ℕ) → Held bs t coords → ((i : ℕ) → i < length t → FitsAt t coords f k i) → Fits bs (diffs t) f k
+fits-places : (bs t coords : List ℕ) (f k : ℕ) → LevelsHeld bs t coords → ((i : ℕ) → i < length t → FitsAt t coords f k i) → ColumnFits bs (diffs t) f k
 fits-places bs t coords f k held h x m =
     let p = diff-at t x m in
     ap (bit f) (p .1 .1) ∙ h (p .0) (p .1 .0) ∙ ap (λ (c : ℕ). odd c k) (held (p .0) (p .1 .0) ∙ ap (coordOf bs) (sym (p .1 .1)))
 
 -- the walk before the first factor
 pub walk-start : (m : ℕ) (t place : List ℕ) → Latest (length t) (length t) (replicate 128 0) place
-    → Walk m t 0 (record { ok = true; columns = replicate 16 0; basics = 0; half = 1; coords = replicate 128 0; place = place })
+    → TableWalk m t 0 (record { ok = true; columns = replicate 16 0; basics = 0; half = 1; coords = replicate 128 0; place = place })
 unfolding coordOf unitsBefore
 walk-start m t place l =
     record {
@@ -70,8 +71,8 @@ walk-start m t place l =
     }
 
 -- a factor that follows the basic factors
-walk-follow : (m : ℕ) (t : List ℕ) (f k : ℕ) (w : Walked) → f < 16 → (s : Walk m t f w) → k < 2 ^ length (s .bs) → Fits (s .bs) (diffs t) f k
-    → Walk m t (f + 1) (record { ok = true; columns = set (w .columns) f k; basics = w .basics; half = w .half; coords = w .coords; place = w .place })
+walk-follow : (m : ℕ) (t : List ℕ) (f k : ℕ) (w : Walked) → f < 16 → (s : TableWalk m t f w) → k < 2 ^ length (s .bs) → ColumnFits (s .bs) (diffs t) f k
+    → TableWalk m t (f + 1) (record { ok = true; columns = set (w .columns) f k; basics = w .basics; half = w .half; coords = w .coords; place = w .place })
 walk-follow m t f k w hf s l fit =
     let a = w .columns in
     let bs = s .bs in
@@ -86,17 +87,24 @@ walk-follow m t f k w hf s l fit =
       latest = s .latest;
       onto = s .onto;
       size = length-set a f k ∙ s .size;
-      fits = set-column a f k h (λ g x. (x < 2 ^ length bs) × Fits bs (diffs t) g x) (l, fit) (s .fits);
+      fits = set-column a f k h (λ g x. (x < 2 ^ length bs) × ColumnFits bs (diffs t) g x) (l, fit) (s .fits);
       next = set-next a f k h (omega (arith, ap (λ (u : ℕ). 2 ^ u) (s .units))) (s .next);
       units = units-more a f k h (length bs) (s .units) ∙ omega arith;
       unused = set-unused a f k (s .unused);
     }
 
 -- one more basic factor
-walk-grow : (m : ℕ) (t : List ℕ) (f k : ℕ) (w : Walked) (coords place : List ℕ) → f < 16 → (s : Walk m t f w) → k ≡ w .half → length (s .bs) < m
-    → Extended t (w .coords) coords f (w .half) (length t) → Latest (length t) (length t) coords place
+walk-grow : (m : ℕ) (t : List ℕ) (f k : ℕ) (w : Walked) (coords place : List ℕ) → f < 16 → (s : TableWalk m t f w) → k ≡ w .half → length (s .bs) < m
+    → LevelsExtended t (w .coords) coords f (w .half) (length t) → Latest (length t) (length t) coords place
     → ((n : ℕ) → Table n m t → Onto (f ∷ s .bs) (diffs t))
-    → Walk m t (f + 1) (record { ok = true; columns = set (w .columns) f k; basics = w .basics + 1; half = w .half + w .half; coords = coords; place = place })
+    → TableWalk m t (f + 1) (record {
+      ok = true;
+      columns = set (w .columns) f k;
+      basics = w .basics + 1;
+      half = w .half + w .half;
+      coords = coords;
+      place = place;
+    })
 unfolding coordOf
 walk-grow m t f k w coords place hf s ke few x l onto =
     let a = w .columns in
@@ -115,8 +123,8 @@ walk-grow m t f k w coords place hf s ke few x l onto =
       latest = l;
       onto = onto;
       size = length-set a f k ∙ s .size;
-      fits = set-column a f k h (λ g x. (x < 2 ^ length (f ∷ bs)) × Fits (f ∷ bs) (diffs t) g x)
-          (omega arith, subst (λ (c : ℕ). Fits (f ∷ bs) (diffs t) f c) (sym v) (fits-fresh bs (diffs t) f))
+      fits = set-column a f k h (λ g x. (x < 2 ^ length (f ∷ bs)) × ColumnFits (f ∷ bs) (diffs t) g x)
+          (omega arith, subst (λ (c : ℕ). ColumnFits (f ∷ bs) (diffs t) f c) (sym v) (fits-fresh bs (diffs t) f))
           (λ g q. let r = s .fits g q in (omega (arith, r .0), fits-keep bs (diffs t) f g (getD a g 0) (r .0) (r .1)));
       next = set-next a f k h (omega (arith, ap (λ (u : ℕ). 2 ^ u) (s .units))) (s .next);
       units = units-more a f k h (length bs) (s .units) ∙ omega arith;
@@ -124,8 +132,8 @@ walk-grow m t f k w coords place hf s ke few x l onto =
     }
 
 -- the candidate is the only column that can fit
-fits-only : (bs t coords : List ℕ) (f k i : ℕ) → Held bs t coords → k < 2 ^ length bs → ((j : ℕ) → j < length bs → Read t coords f k j)
-    → i < 2 ^ length bs → Fits bs (diffs t) f i → i ≡ k
+fits-only : (bs t coords : List ℕ) (f k i : ℕ) → LevelsHeld bs t coords → k < 2 ^ length bs → ((j : ℕ) → j < length bs → Read t coords f k j)
+    → i < 2 ^ length bs → ColumnFits bs (diffs t) f i → i ≡ k
 fits-only bs t coords f k i held hk read hi fit =
     bit-ext (length bs) i k hi hk
     (λ j h.
@@ -135,7 +143,7 @@ fits-only bs t coords f k i held hk read hi fit =
     sym (odd-bit j i) ∙ ap (λ (c : ℕ). odd c i) (sym e) ∙ sym (fit x (at-diff t (r .0) (r .1 .0))) ∙ sym (r .1 .1 .1))
 
 -- where the candidate does not fit, the factor is basic
-onto-grown : (n m : ℕ) (t coords : List ℕ) (bs : List ℕ) (f k : ℕ) → Table n m t → Held bs t coords → k < 2 ^ length bs
+onto-grown : (n m : ℕ) (t coords : List ℕ) (bs : List ℕ) (f k : ℕ) → Table n m t → LevelsHeld bs t coords → k < 2 ^ length bs
     → ((j : ℕ) → j < length bs → Read t coords f k j)
     → (i : ℕ) × ((i < length t) × (FitsAt t coords f k i → ⊥)) → Onto bs (diffs t) → Onto (f ∷ bs) (diffs t)
 onto-grown n m t coords bs f k tab held hk read bad onto =
@@ -167,7 +175,7 @@ full-refused n m t bs f tab e onto =
     omega (arith, diffs-count n m t tab, pow-pos m)
 
 -- a basic factor is low alone in some run
-missing-refused : (bs t coords place : List ℕ) (i : ℕ) → Held bs t coords → Latest (length t) (length t) coords place → Onto bs (diffs t) → i < length bs
+missing-refused : (bs t coords place : List ℕ) (i : ℕ) → LevelsHeld bs t coords → Latest (length t) (length t) coords place → Onto bs (diffs t) → i < length bs
     → (Alone coords i (getD place (2 ^ i) 0) → ⊥) → ⊥
 missing-refused bs t coords place i held l onto h ne =
     let o = onto (2 ^ i) (pow-lt {i = i} {j = length bs} h) in
@@ -177,13 +185,13 @@ missing-refused bs t coords place i held l onto h ne =
     ne (ap (λ (y : ℕ). getD coords (getD place y 0) 0) (sym e) ∙ l .same x (p .1 .0) ∙ e)
 
 -- the outcomes of a step
-pub ended : (m : ℕ) (t : List ℕ) (f : ℕ) (v : Walked) → v .ok ≡ false → ((n : ℕ) → Table n m t → ⊥) → Reached m t f v
+pub ended : (m : ℕ) (t : List ℕ) (f : ℕ) (v : Walked) → v .ok ≡ false → ((n : ℕ) → Table n m t → ⊥) → WalkReached m t f v
 ended m t f v e h = record { walk = λ p. absurd (clash p e); refused = λ p. h }
 
-pub went : (m : ℕ) (t : List ℕ) (f : ℕ) (v : Walked) → v .ok ≡ true → Walk m t f v → Reached m t f v
+pub went : (m : ℕ) (t : List ℕ) (f : ℕ) (v : Walked) → v .ok ≡ true → TableWalk m t f v → WalkReached m t f v
 went m t f v e w = record { walk = λ p. w; refused = λ p. absurd (clash e p) }
 
-module _ (m : ℕ) (t : List ℕ) (f : ℕ) (w : Walked) (s : Walk m t f w) where
+module _ (m : ℕ) (t : List ℕ) (f : ℕ) (w : Walked) (s : TableWalk m t f w) where
   pub walk-small : m ≤ 7 → (w .basics ≤ 7) × (w .half ≤ 128)
   walk-small h = (omega (arith, s .basics, s .few), omega (arith, s .half, pow-most (length (s .bs)) (omega (arith, s .few))))
 
@@ -207,10 +215,10 @@ module _ (m : ℕ) (t : List ℕ) (f : ℕ) (w : Walked) (s : Walk m t f w) wher
 
     module _ (e : ok ≡ true) (b : Bool) (fit : Fitting t (w .coords) f k b) where
       -- the candidate fits
-      pub step-follow : (v : Walked) → b ≡ true → f < 16 → Followed f k w v → Reached m t (f + 1) v
+      pub step-follow : (v : Walked) → b ≡ true → f < 16 → ColumnGiven f k w v → WalkReached m t (f + 1) v
       step-follow v fits hf is =
           went m t (f + 1) v (ap (λ (z : Walked). z .ok) (is .is))
-          (subst (Walk m t (f + 1)) (sym (is .is))
+          (subst (TableWalk m t (f + 1)) (sym (is .is))
           (walk-follow m t f k w hf s (step-below e) (fits-places (s .bs) t (w .coords) f k (s .held) (fit .all fits))))
 
       -- it does not: factor f is basic
@@ -222,8 +230,8 @@ module _ (m : ℕ) (t : List ℕ) (f : ℕ) (w : Walked) (s : Walk m t f w) wher
       pub step-full : b ≡ false → w .basics ≡ m → (n : ℕ) → Table n m t → ⊥
       step-full bad full n tab = full-refused n m t (s .bs) f tab (sym (s .basics) ∙ full) (step-onto bad n tab)
 
-      pub step-grow : (v : Walked) → b ≡ false → f < 16 → (w .basics ≡ m → ⊥) → Grown t f w v → Reached m t (f + 1) v
+      pub step-grow : (v : Walked) → b ≡ false → f < 16 → (w .basics ≡ m → ⊥) → BasicAdded t f w v → WalkReached m t (f + 1) v
       step-grow v bad hf room g =
           went m t (f + 1) v (ap (λ (z : Walked). z .ok) (g .is))
-          (subst (Walk m t (f + 1)) (sym (g .is))
+          (subst (TableWalk m t (f + 1)) (sym (g .is))
           (walk-grow m t f (w .half) w (v .coords) (v .place) hf s refl (omega (arith, s .basics, s .few, room)) (g .extended) (g .latest) (step-onto bad)))

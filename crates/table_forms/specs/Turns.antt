@@ -12,7 +12,7 @@ use lib.Seq.{getD-set-same, getD-set-other}
 use Rattle.gf2.specs.Digits.{bit}
 use Rattle.gf2.specs.DigitLaws.{low-bit, bit-top, pow-most}
 use Rattle.gf2.specs.Fill.{zeros}
-use Rattle.table_forms.specs.Walk.{diffAt, Latest, Read, Extended}
+use Rattle.table_forms.specs.Walk.{diffAt, Latest, Read, LevelsExtended}
 
 -- the last run with given levels
 pub latest-none : (count : ℕ) (coords : List ℕ) → 0 < count → Latest count 0 coords (replicate 128 0)
@@ -65,11 +65,11 @@ read-more t coords f i half d k x e hk hx ce de read j h =
     (r .0, (r .1 .0, (r .1 .1 .0, ap (bit j) w ∙ low-bit j i d k (omega arith) (omega arith) ∙ r .1 .1 .1))))
 
 -- one more basic factor: the levels of one more run
-pub extend-none : (t c : List ℕ) (f half : ℕ) → length c ≡ 128 → Extended t c c f half 0
+pub extend-none : (t c : List ℕ) (f half : ℕ) → length c ≡ 128 → LevelsExtended t c c f half 0
 extend-none t c f half l = record { size = l; made = λ i h. absurd (omega arith); kept = λ i h. refl }
 
-pub extend-more : (t c₀ c : List ℕ) (f half k v : ℕ) → k < 128 → Extended t c₀ c f half k → v ≡ bit f (diffAt t k) * half + getD c k 0
-    → Extended t c₀ (set c k v) f half (k + 1)
+pub extend-more : (t c₀ c : List ℕ) (f half k v : ℕ) → k < 128 → LevelsExtended t c₀ c f half k → v ≡ bit f (diffAt t k) * half + getD c k 0
+    → LevelsExtended t c₀ (set c k v) f half (k + 1)
 extend-more t c₀ c f half k v h x e =
     record {
       size = length-set c k v ∙ x .size;

@@ -15,13 +15,13 @@ use Rattle.gf2.specs.Places.{place-in, in-place, different-once, once-different
 use Rattle.regular.specs.Columns.{runOf, planOf}
 use Rattle.regular.specs.Runs.{Agree, Table, runsOf, switched}
 use Rattle.standard.specs.Coordinates.{coord-lt}
-use Rattle.standard.specs.Finding.{Found, is-found, not-found}
+use Rattle.standard.specs.Finding.{StandardFound, is-found, not-found}
 use Rattle.standard.specs.FromTable.{run-is}
 use Rattle.standard.specs.Model.{coordOf}
 use Rattle.standard.specs.Runs.{run-xor}
 use Rattle.table_forms.specs.declared.Walked.{Walked}
 use Rattle.table_forms.specs.Steps.{at-diff}
-use Rattle.table_forms.specs.Walk.{diffAt, Walk, AllLast}
+use Rattle.table_forms.specs.Walk.{diffAt, TableWalk, AllLast}
 
 -- g reads the levels of a difference, and the columns a give the difference back
 module _ (n m : ℕ) (t a : List ℕ) (g : ℕ → ℕ) (count : length t ≡ 2 ^ m) (within : (x : ℕ) → In x t → x < 2 ^ n)
@@ -86,7 +86,7 @@ module _ (n m : ℕ) (t a : List ℕ) (g : ℕ → ℕ) (count : length t ≡ 2 
       }
 
 -- what the end of the walk decides
-module _ (n m : ℕ) (t : List ℕ) (w : Walked) (count : length t ≡ 2 ^ m) (within : (x : ℕ) → In x t → x < 2 ^ n) (s : Walk m t n w) where
+module _ (n m : ℕ) (t : List ℕ) (w : Walked) (count : length t ≡ 2 ^ m) (within : (x : ℕ) → In x t → x < 2 ^ n) (s : TableWalk m t n w) where
   runs-at : (i : ℕ) → i < length t → diffAt t i ≡ runOf (w .columns) n (coordOf (s .bs) (diffAt t i))
   runs-at i h =
       let d = diffAt t i in
@@ -123,7 +123,7 @@ module _ (n m : ℕ) (t : List ℕ) (w : Walked) (count : length t ≡ 2 ^ m) (w
       ne (different-once t (tab .different) x i hx h (xor-cancel (getD t x 0) (getD t i 0) r d))
 
   -- each run is the last with its levels: the table is regular
-  pub verdict-regular : AllLast (length t) (w .coords) (w .place) true → Found n m (Table n m t) (switched (getD t 0 0) (runsOf t)) true (w .columns)
+  pub verdict-regular : AllLast (length t) (w .coords) (w .place) true → StandardFound n m (Table n m t) (switched (getD t 0 0) (runsOf t)) true (w .columns)
   verdict-regular l =
       let g = coordOf (s .bs) in
       let once = once-at (l .all refl) in
@@ -135,6 +135,7 @@ module _ (n m : ℕ) (t : List ℕ) (w : Walked) (count : length t ≡ 2 ^ m) (w
       })
       (s .unused)
 
-  pub verdict-repeat : AllLast (length t) (w .coords) (w .place) false → Found n m (Table n m t) (switched (getD t 0 0) (runsOf t)) false (replicate 16 0)
+  pub verdict-repeat : AllLast (length t) (w .coords) (w .place) false
+      → StandardFound n m (Table n m t) (switched (getD t 0 0) (runsOf t)) false (replicate 16 0)
   verdict-repeat l =
       not-found n m (Table n m t) (switched (getD t 0 0) (runsOf t)) (λ tab. let r = l .some refl in repeat-refused (r .0) (r .1 .0) (r .1 .1) tab)

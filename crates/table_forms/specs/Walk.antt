@@ -8,7 +8,7 @@ use lib.Bits.{bitXor}
 use lib.ListN.{length, getD, set}
 use Rattle.gf2.specs.Digits.{bit, odd}
 use Rattle.regular.specs.Runs.{Table}
-use Rattle.standard.specs.Basics.{Fits, Onto}
+use Rattle.standard.specs.Basics.{ColumnFits, Onto}
 use Rattle.standard.specs.Form.{unitsBefore}
 use Rattle.standard.specs.Model.{diffs, coordOf}
 use Rattle.table_forms.specs.declared.Walked.{Walked}
@@ -18,8 +18,8 @@ abbrev pub diffAt : List ℕ → ℕ → ℕ
 diffAt t i = bitXor (getD t i 0) (getD t 0 0)
 
 -- place i holds the basic levels of run i less the first run
-abbrev pub Held : List ℕ → List ℕ → List ℕ → Type 0
-Held bs t coords = (i : ℕ) → i < length t → getD coords i 0 ≡ coordOf bs (diffAt t i)
+abbrev pub LevelsHeld : List ℕ → List ℕ → List ℕ → Type 0
+LevelsHeld bs t coords = (i : ℕ) → i < length t → getD coords i 0 ≡ coordOf bs (diffAt t i)
 
 -- place c of v holds the last of the first k runs whose basic levels are c; every place of v holds a number below count
 pub record Latest (count k : ℕ) (coords v : List ℕ) : Type 0 where
@@ -52,32 +52,32 @@ pub record Fitting (t coords : List ℕ) (f k : ℕ) (ok : Bool) : Type 0 where
   pub some : ok ≡ false → (i : ℕ) × ((i < length t) × (FitsAt t coords f k i → ⊥))
 
 -- c is c₀ with the level of factor f put above the levels of each of the first k runs
-pub record Extended (t c₀ c : List ℕ) (f half k : ℕ) : Type 0 where
+pub record LevelsExtended (t c₀ c : List ℕ) (f half k : ℕ) : Type 0 where
   pub size : length c ≡ 128
   pub made : (i : ℕ) → i < k → getD c i 0 ≡ bit f (diffAt t i) * half + getD c₀ i 0
   pub kept : (i : ℕ) → k ≤ i → getD c i 0 ≡ getD c₀ i 0
 
 -- the state of the walk before factor f; the basic factors bs have the last first
-pub record Walk (m : ℕ) (t : List ℕ) (f : ℕ) (w : Walked) : Type 0 where
+pub record TableWalk (m : ℕ) (t : List ℕ) (f : ℕ) (w : Walked) : Type 0 where
   pub bs : List ℕ
   pub basics : w .basics ≡ length bs
   pub few : length bs ≤ m
   pub half : w .half ≡ 2 ^ length bs
-  pub held : Held bs t (w .coords)
+  pub held : LevelsHeld bs t (w .coords)
   pub latest : Latest (length t) (length t) (w .coords) (w .place)
   pub onto : (n : ℕ) → Table n m t → Onto bs (diffs t)
   pub size : length (w .columns) ≡ 16
-  pub fits : (g : ℕ) → g < f → (getD (w .columns) g 0 < 2 ^ length bs) × Fits bs (diffs t) g (getD (w .columns) g 0)
+  pub fits : (g : ℕ) → g < f → (getD (w .columns) g 0 < 2 ^ length bs) × ColumnFits bs (diffs t) g (getD (w .columns) g 0)
   pub next : (g : ℕ) → g < f → getD (w .columns) g 0 ≤ 2 ^ unitsBefore (w .columns) g
   pub units : unitsBefore (w .columns) f ≡ length bs
   pub unused : (g : ℕ) → f ≤ g → getD (w .columns) g 0 ≡ 0
 
 -- v is w with the column k for factor f
-pub record Followed (f k : ℕ) (w v : Walked) : Type 0 where
+pub record ColumnGiven (f k : ℕ) (w v : Walked) : Type 0 where
   pub is : v ≡ record { ok = true; columns = set (w .columns) f k; basics = w .basics; half = w .half; coords = w .coords; place = w .place }
 
 -- v is w with factor f as one more basic factor
-pub record Grown (t : List ℕ) (f : ℕ) (w v : Walked) : Type 0 where
+pub record BasicAdded (t : List ℕ) (f : ℕ) (w v : Walked) : Type 0 where
   pub is : v ≡ record {
     ok = true;
     columns = set (w .columns) f (w .half);
@@ -86,12 +86,12 @@ pub record Grown (t : List ℕ) (f : ℕ) (w v : Walked) : Type 0 where
     coords = v .coords;
     place = v .place;
   }
-  pub extended : Extended t (w .coords) (v .coords) f (w .half) (length t)
+  pub extended : LevelsExtended t (w .coords) (v .coords) f (w .half) (length t)
   pub latest : Latest (length t) (length t) (v .coords) (v .place)
 
 -- the walk went on to factor f, or the runs are not different and regular
-pub record Reached (m : ℕ) (t : List ℕ) (f : ℕ) (w : Walked) : Type 0 where
-  pub walk : w .ok ≡ true → Walk m t f w
+pub record WalkReached (m : ℕ) (t : List ℕ) (f : ℕ) (w : Walked) : Type 0 where
+  pub walk : w .ok ≡ true → TableWalk m t f w
   pub refused : w .ok ≡ false → (n : ℕ) → Table n m t → ⊥
 
 -- whether each of the first k runs is the last with its basic levels

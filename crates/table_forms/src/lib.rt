@@ -7,8 +7,10 @@ ghost use Prim.Native.Nat.{ℕ, _+_, _*_, _^_, _<_, _≤_};
 ghost use lib.ListN.{length, getD};
 ghost use Rattle.gf2.specs.Members.{In};
 ghost use Rattle.regular.specs.Runs.{Table, switched, runsOf};
-ghost use Rattle.standard.specs.Finding.{Found};
-ghost use Rattle.table_forms.specs.Walk.{Latest, Candidate, Fitting, Extended, Walk, Followed, Grown, Reached, AllLast};
+ghost use Rattle.standard.specs.Finding.{StandardFound};
+ghost use Rattle.table_forms.specs.Walk.{Latest, Candidate, Fitting, LevelsExtended, TableWalk, ColumnGiven, BasicAdded, WalkReached, AllLast};
+use regular::FACTORS;
+use regular::RUNS;
 
 // Whether every run is below `end`.
 pub fn all_below(t: &[u16], end: usize) -> bool
@@ -36,11 +38,11 @@ fn with_level(d: u16, half: u16, c: u16) -> u16
 }
 
 // Place c holds the last of the first `count` runs whose basic levels are c; 0 if there is none.
-fn places(count: usize, coords: &[u16; 128]) -> [usize; 128]
+fn places(count: usize, coords: &[u16; RUNS]) -> [usize; RUNS]
     requires { ⌜ (0 < count) × (count ≤ 128) × ((i : ℕ) → i < count → getD (now coords) i 0 < 128) ⌝ }
     ensures { λ v. ⌜ Latest count count (now (coords .entry)) v ⌝ }
 {
-    let mut v = [0usize; 128];
+    let mut v = [0usize; RUNS];
     let mut i = 0;
     while i < count {
         let c = bits::wide(coords[i]);
@@ -58,8 +60,8 @@ struct Forced {
 // The only column that can give factor f its levels; not ok if some basic factor is low alone in no run.
 fn candidate(
     t: &[u16],
-    coords: &[u16; 128],
-    place: &[usize; 128],
+    coords: &[u16; RUNS],
+    place: &[usize; RUNS],
     basics: usize,
     f: usize,
 ) -> Forced
@@ -89,7 +91,7 @@ fn candidate(
 }
 
 // Whether column k gives factor f its level in every run, the first run switched to 0.
-fn fits(t: &[u16], coords: &[u16; 128], f: usize, k: u16) -> bool
+fn fits(t: &[u16], coords: &[u16; RUNS], f: usize, k: u16) -> bool
     requires { ⌜ (f < 16) × (length (now t) ≤ 128) ⌝ }
     ensures { λ r. ⌜ Fitting (now (t .entry)) (now (coords .entry)) f k r ⌝ }
 {
@@ -104,9 +106,9 @@ fn fits(t: &[u16], coords: &[u16; 128], f: usize, k: u16) -> bool
 }
 
 // The basic levels with factor f as one more basic factor.
-fn extend(t: &[u16], coords: [u16; 128], f: usize, half: u16) -> [u16; 128]
+fn extend(t: &[u16], coords: [u16; RUNS], f: usize, half: u16) -> [u16; RUNS]
     requires { ⌜ (f < 16) × (length (now t) ≤ 128) × (half ≤ 128) × ((i : ℕ) → i < length (now t) → getD coords i 0 < half) ⌝ }
-    ensures { λ v. ⌜ Extended (now (t .entry)) coords v f half (length (now (t .entry))) ⌝ }
+    ensures { λ v. ⌜ LevelsExtended (now (t .entry)) coords v f half (length (now (t .entry))) ⌝ }
 {
     let mut v = coords;
     let mut i = 0;
@@ -121,23 +123,23 @@ fn extend(t: &[u16], coords: [u16; 128], f: usize, half: u16) -> [u16; 128]
 // each choice of these levels. Not ok if the runs turned out not to be different and regular.
 struct Walked {
     ok: bool,
-    columns: [u8; 16],
+    columns: [u8; FACTORS],
     basics: usize,
     half: u16,
-    coords: [u16; 128],
-    place: [usize; 128],
+    coords: [u16; RUNS],
+    place: [usize; RUNS],
 }
 
 // The walk before the first factor.
 fn start(t: &[u16]) -> Walked
     requires { ⌜ (0 < length (now t)) × (length (now t) ≤ 128) ⌝ }
-    ensures { λ w. ⌜ (w .ok ≡ true) × ((m : ℕ) → Walk m (now (t .entry)) 0 w) ⌝ }
+    ensures { λ w. ⌜ (w .ok ≡ true) × ((m : ℕ) → TableWalk m (now (t .entry)) 0 w) ⌝ }
 {
-    let coords = [0u16; 128];
+    let coords = [0u16; RUNS];
     let place = places(t.len(), &coords);
     Walked {
         ok: true,
-        columns: [0u8; 16],
+        columns: [0u8; FACTORS],
         basics: 0,
         half: 1,
         coords,
@@ -148,7 +150,7 @@ fn start(t: &[u16]) -> Walked
 // Factor f takes the column k of the basic factors so far.
 fn follow(w: Walked, f: usize, k: u16) -> Walked
     requires { ⌜ (f < 16) × (k < 256) ⌝ }
-    ensures { λ v. ⌜ Followed f k w v ⌝ }
+    ensures { λ v. ⌜ ColumnGiven f k w v ⌝ }
 {
     let mut columns = w.columns;
     columns[f] = k as u8;
@@ -168,7 +170,7 @@ fn follow(w: Walked, f: usize, k: u16) -> Walked
 fn grow(t: &[u16], w: Walked, f: usize) -> Walked
     requires { ⌜ (f < 16) × (w .basics < 7) × (w .half ≤ 64) ⌝ }
     requires { ⌜ (0 < length (now t)) × (length (now t) ≤ 128) × ((i : ℕ) → i < length (now t) → getD (w .coords) i 0 < w .half) ⌝ }
-    ensures { λ v. ⌜ Grown (now (t .entry)) f w v ⌝ }
+    ensures { λ v. ⌜ BasicAdded (now (t .entry)) f w v ⌝ }
 {
     let half = w.half;
     let mut columns = w.columns;
@@ -197,8 +199,8 @@ fn refuse(w: Walked) -> Walked
 
 // The walk after factor f; not ok if the runs are not different and regular.
 fn step(m: usize, t: &[u16], w: Walked, f: usize) -> Walked
-    requires { ⌜ (f < 16) × (m ≤ 7) × (length (now t) ≡ 2 ^ m) × Walk m (now t) f w ⌝ }
-    ensures { λ v. ⌜ Reached m (now (t .entry)) (f + 1) v ⌝ }
+    requires { ⌜ (f < 16) × (m ≤ 7) × (length (now t) ≡ 2 ^ m) × TableWalk m (now t) f w ⌝ }
+    ensures { λ v. ⌜ WalkReached m (now (t .entry)) (f + 1) v ⌝ }
 {
     let basics = w.basics;
     let coords = w.coords;
@@ -220,7 +222,7 @@ fn step(m: usize, t: &[u16], w: Walked, f: usize) -> Walked
 // The walk over all n factors; not ok if the runs are not different and regular.
 fn walk(n: usize, m: usize, t: &[u16]) -> Walked
     requires { ⌜ (n ≤ 16) × (m ≤ 7) × (length (now t) ≡ 2 ^ m) ⌝ }
-    ensures { λ w. ⌜ Reached m (now (t .entry)) n w ⌝ }
+    ensures { λ w. ⌜ WalkReached m (now (t .entry)) n w ⌝ }
 {
     let mut w = start(t);
     let mut f = 0;
@@ -235,7 +237,7 @@ fn walk(n: usize, m: usize, t: &[u16]) -> Walked
 }
 
 // Whether each of the first `count` runs is the last with its basic levels.
-fn all_last(count: usize, coords: &[u16; 128], place: &[usize; 128]) -> bool
+fn all_last(count: usize, coords: &[u16; RUNS], place: &[usize; RUNS]) -> bool
     requires { ⌜ (count ≤ 128) × ((i : ℕ) → i < count → getD (now coords) i 0 < 128) ⌝ }
     ensures { λ r. ⌜ AllLast count (now (coords .entry)) (now (place .entry)) r ⌝ }
 {
@@ -252,13 +254,13 @@ fn all_last(count: usize, coords: &[u16; 128], place: &[usize; 128]) -> bool
 // The standard columns of a run table, its first run switched to 0, found exactly if the runs are different and regular.
 pub fn table_columns(n: usize, m: usize, t: &[u16]) -> regular::Standardized
     requires { ⌜ (n ≤ 16) × (m ≤ 7) × (length (now t) ≡ 2 ^ m) × ((x : ℕ) → In x (now t) → x < 2 ^ n) ⌝ }
-    ensures { λ r. ⌜ Found n m (Table n m (now (t .entry))) (switched (getD (now (t .entry)) 0 0) (runsOf (now (t .entry)))) (r .ok) (r .columns) ⌝ }
+    ensures { λ r. ⌜ StandardFound n m (Table n m (now (t .entry))) (switched (getD (now (t .entry)) 0 0) (runsOf (now (t .entry)))) (r .ok) (r .columns) ⌝ }
 {
     let w = walk(n, m, t);
     if !w.ok {
         return regular::Standardized {
             ok: false,
-            columns: [0u8; 16],
+            columns: [0u8; FACTORS],
         };
     }
     let columns = w.columns;
@@ -267,7 +269,7 @@ pub fn table_columns(n: usize, m: usize, t: &[u16]) -> regular::Standardized
     if !all_last(t.len(), &coords, &place) {
         return regular::Standardized {
             ok: false,
-            columns: [0u8; 16],
+            columns: [0u8; FACTORS],
         };
     }
     regular::Standardized { ok: true, columns }

@@ -128,25 +128,25 @@ differ-at =
 pub differ-nowhere : Differ 9 (Generated 9 3 wordsP) (Generated 9 3 wordsQ) 0
 differ-nowhere = whiteboard .1 .1 .1 .1 .1 .1 .1 .0 .length
 
-abbrev pub names : List ℕ
-names = 1 ∷ 2 ∷ 3 ∷ 0 ∷ 9 ∷ []
+abbrev pub namesOfFive : List ℕ
+namesOfFive = 1 ∷ 2 ∷ 3 ∷ 0 ∷ 9 ∷ []
 
-abbrev pub tableABC : Given
-tableABC = ofRuns 4 1 runsABC
+abbrev pub givenABC : Given
+givenABC = ofRuns 4 1 runsABC
 
-abbrev pub tableDisguised : Given
-tableDisguised = ofRuns 4 1 disguised
+abbrev pub givenDisguised : Given
+givenDisguised = ofRuns 4 1 disguised
 
 accepted-tables : Lowest (either (runsFaults 4 1 runsABC) (runsFaults 4 1 disguised)) 0
 accepted-tables = lowest-then (runsFaults 4 1 runsABC) (runsFaults 4 1 disguised) 0 accepted-runs accepted-disguised
 
-pub compares-same : Compares 4 tableABC tableDisguised five names (Compared.Same 9)
+pub compares-same : Compares 4 givenABC givenDisguised five namesOfFive (Compared.Same 9)
 unfolding below
 compares-same =
     Compares.same 9
     (lowest-then (either (runsFaults 4 1 runsABC) (runsFaults 4 1 disguised)) (LentFault 4 five) 0 accepted-tables (lent-fits 4 five (omega arith)))
-    (carries-names 4 (runsOf runsABC) (runsOf disguised) (1 ∷ 2 ∷ 3 ∷ 0 ∷ []) names 9
-    (agree-at (λ f. getD names f 0) (λ f. getD (1 ∷ 2 ∷ 3 ∷ 0 ∷ []) f 0) 4 refl) (witness-disguised .carries))
+    (carries-names 4 (runsOf runsABC) (runsOf disguised) (1 ∷ 2 ∷ 3 ∷ 0 ∷ []) namesOfFive 9
+    (agree-at (λ f. getD namesOfFive f 0) (λ f. getD (1 ∷ 2 ∷ 3 ∷ 0 ∷ []) f 0) 4 refl) (witness-disguised .carries))
     (λ from to. absurd (omega (arith, to))) refl refl
 
 pub compares-different : Compares 4 (ofColumns 4 1 abc) (ofColumns 4 1 abcd) five five (Compared.Different 3)
@@ -164,7 +164,7 @@ compares-refused = Compares.refused 8 (omega arith) refusal-8 refl
 abbrev pub Claimed : ℕ → Type 0
 Claimed = Witness 4 (runsOf runsABC) (runsOf disguised) (1 ∷ 2 ∷ 3 ∷ 0 ∷ [])
 
-pub checks-yes : ChecksWitness 4 tableABC tableDisguised (1 ∷ 2 ∷ 3 ∷ 0 ∷ []) 9 Checked.Yes
+pub checks-yes : ChecksWitness 4 givenABC givenDisguised (1 ∷ 2 ∷ 3 ∷ 0 ∷ []) 9 Checked.Yes
 checks-yes = Checks.yes accepted-tables witness-disguised
 
 pub checks-no : Checks (either (runsFaults 4 1 runsABC) (runsFaults 4 1 disguised)) (Claimed 0) Checked.No
@@ -175,7 +175,7 @@ pub checks-refused : Checks (either (runsFaults 3 1 (0 ∷ 1 ∷ 2 ∷ 4 ∷ [])
 checks-refused = Checks.refused 6 (omega arith) (twice (runsFaults 3 1 (0 ∷ 1 ∷ 2 ∷ 4 ∷ [])) 6 (omega arith) refused-runs)
 
 -- the same as plain numbers
-pub told-same : Told (Compares 4 tableABC tableDisguised five names) comparedNumber 65545
+pub told-same : Told (Compares 4 givenABC givenDisguised five namesOfFive) comparedNumber 65545
 told-same = record { answer = Compared.Same 9; says = compares-same; is = refl }
 
 pub told-no : Told (Checks (either (runsFaults 4 1 runsABC) (runsFaults 4 1 disguised)) (Claimed 0)) checkedNumber 131072

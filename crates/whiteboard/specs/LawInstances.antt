@@ -33,7 +33,7 @@ use Rattle.isomorphism_laws.specs.Match.{Match, Places}
 use Rattle.isomorphism_laws.specs.SamePlan.{carries-agree}
 use Rattle.smallest_laws.specs.Value.{value, value-same}
 use Rattle.catalogue_laws.specs.Demand.{plan-runs}
-use Rattle.catalogue_laws.specs.Steps.{Held, First, Next, Place, one}
+use Rattle.catalogue_laws.specs.Steps.{EntryHeld, FirstEntry, StepFrom, Place, one}
 use Rattle.catalogue_laws.specs.Walk.{first}
 use Rattle.catalogue_laws.specs.Walked.{Begun, Ended}
 use Rattle.whiteboard.specs.GivenWords.{given-generators}
@@ -94,10 +94,10 @@ no-match t h =
 abbrev pub held : ℕ → List ℕ
 held i = getD ((recordABC .columns) ∷ (recordABCD .columns) ∷ []) i []
 
-pub held-abc : Held 4 3 3 (recordABC .columns)
+pub held-abc : EntryHeld 4 3 3 (recordABC .columns)
 held-abc = record { size = refl; rest = past-front abc 12; entry = holds-abc .columns }
 
-held-abcd : Held 4 3 3 (recordABCD .columns)
+held-abcd : EntryHeld 4 3 3 (recordABCD .columns)
 held-abcd = record { size = refl; rest = past-front abcd 12; entry = holds-abcd .columns }
 
 pub place-one : Place 4 3 3 0 one
@@ -112,18 +112,18 @@ number-of e h =
     (λ ne. let o : r .0 ≡ 1 = omega (arith, r .1 .0) in
     inr (sym (value-same 4 abcd e (subst (λ (i : ℕ). Equal 4 (getD (abc ∷ abcd ∷ []) i []) e) o (r .1 .1)))))
 
-pub first-abc : First 4 3 3 0 (recordABC .columns)
+pub first-abc : FirstEntry 4 3 3 0 (recordABC .columns)
 unfolding value
 first-abc = record { held = held-abc; since = omega arith; least = λ e h l. ⊎-elim (λ v. omega arith) (λ v. omega arith) (number-of e h) }
 
-pub first-abcd : First 4 3 3 (suc (value 4 (recordABC .columns))) (recordABCD .columns)
+pub first-abcd : FirstEntry 4 3 3 (suc (value 4 (recordABC .columns))) (recordABCD .columns)
 unfolding value
 first-abcd = record { held = held-abcd; since = omega arith; least = λ e h l. ⊎-elim (λ v. omega arith) (λ v. omega arith) (number-of e h) }
 
-pub next-some : Next 4 3 3 0 true (recordABC .columns)
+pub next-some : StepFrom 4 3 3 0 true (recordABC .columns)
 next-some = record { some = λ _. first-abc; none = λ e. absurd (clash refl e) }
 
-pub next-none : Next 4 3 3 (suc (value 4 (recordABCD .columns))) false (replicate 16 0)
+pub next-none : StepFrom 4 3 3 (suc (value 4 (recordABCD .columns))) false (replicate 16 0)
 unfolding value
 next-none = record { some = λ e. absurd (false≢true e); none = λ _ e h l. ⊎-elim (λ v. omega arith) (λ v. omega arith) (number-of e h) }
 

@@ -19,7 +19,6 @@ use Rattle.regular.specs.Smallest.{Equal, Entry, Catalogue}
 use Rattle.smallest_laws.specs.Dictionary.{equal-sym, equal-trans, equal-before, before-equal}
 use Rattle.smallest_laws.specs.Growth.{entry-equal}
 use Rattle.catalogue_laws.specs.Demand.{catalogue-unique}
-use Rattle.whiteboard.specs.AnswerInstances.{}
 use Rattle.whiteboard.specs.PlanInstances.{recordABC, recordABCD, holds-abc, holds-abcd, size-4}
 use Rattle.whiteboard.specs.RefusalInstances.{size-none, design-none}
 use Rattle.whiteboard.specs.ResultInstances.{plans, plans-none, each-plan}

@@ -14,7 +14,7 @@ use Rattle.gf2.specs.DigitLaws.{bit-xor, bit-none, bit-own, bit-other}
 use Rattle.regular.specs.Same.{Renaming}
 
 -- n names, each of the n factors being used once
-pub record Named (n : ℕ) (p : List ℕ) : Type 0 where
+pub record AllNamed (n : ℕ) (p : List ℕ) : Type 0 where
   pub count : length p ≡ n
   pub renaming : Renaming n p
 
@@ -34,13 +34,13 @@ used-none n p = record {
 }
 
 -- the next name is out of range
-pub past-not : (n : ℕ) (p : List ℕ) (f name : ℕ) → name ≡ getD p f 0 → f < n → n ≤ name → Named n p → ⊥
+pub past-not : (n : ℕ) (p : List ℕ) (f name : ℕ) → name ≡ getD p f 0 → f < n → n ≤ name → AllNamed n p → ⊥
 past-not n p f name is h l w = omega (arith, is, w .renaming .within f h)
 
 -- the next name
 module _ (n : ℕ) (p : List ℕ) (f seen name : ℕ) (s : Used n p f seen) (is : name ≡ getD p f 0) where
   -- it is seen already
-  pub twice-not : f < n → bit name seen ≡ 1 → Named n p → ⊥
+  pub twice-not : f < n → bit name seen ≡ 1 → AllNamed n p → ⊥
   twice-not h b w =
       let g = s .only name b in
       let l = g .1 .0 in
@@ -74,7 +74,7 @@ module _ (n : ℕ) (p : List ℕ) (f seen name : ℕ) (s : Used n p f seen) (is 
     }
 
 -- all names read
-pub used-all : (n : ℕ) (p : List ℕ) (f seen : ℕ) → length p ≡ n → n ≤ f → Used n p f seen → Named n p
+pub used-all : (n : ℕ) (p : List ℕ) (f seen : ℕ) → length p ≡ n → n ≤ f → Used n p f seen → AllNamed n p
 used-all n p f seen e l s = record {
   count = e;
   renaming = record { within = λ g h. s .within g (omega arith); once = λ g h j k q. s .once g h (omega arith) (omega arith) q };

@@ -12,12 +12,12 @@ use Rattle.regular.specs.Runs.{runsOf}
 use Rattle.regular.specs.Given.{ofRuns}
 use Rattle.regular.specs.Comparisons.{Witness, Checks, ChecksWitness}
 use Rattle.regular.specs.declared.Checked.{Checked}
-use Rattle.witness_check.specs.Names.{Named}
+use Rattle.witness_check.specs.Names.{AllNamed}
 use Rattle.witness_check.specs.Partners.{Partnered, NoPartner, partners-carry}
 
 -- a witness has n names, no mask bit past factor n, and leaves no run without a partner
 module _ (n : ℕ) (t u p : List ℕ) (mask : ℕ) where
-  pub not-named : (Named n p → ⊥) → Witness n (runsOf t) (runsOf u) p mask → ⊥
+  pub not-named : (AllNamed n p → ⊥) → Witness n (runsOf t) (runsOf u) p mask → ⊥
   not-named h w = h (record { count = w .count; renaming = w .carries .renaming })
 
   pub not-within : 2 ^ n ≤ mask → Witness n (runsOf t) (runsOf u) p mask → ⊥
@@ -50,7 +50,7 @@ module _ (n g : ℕ) (t u p : List ℕ) (mask x y r : ℕ) (a : Lowest (runsFaul
   pub check-no : r ≡ 0 → (Witness n (runsOf t) (runsOf u) p mask → ⊥) → ChecksWitness n (ofRuns n g t) (ofRuns n g u) p mask Checked.No
   check-no e h = Checks.no (none e) h
 
-  pub check-yes : r ≡ 0 → Named n p → mask < 2 ^ n → Partnered n t u p mask → ChecksWitness n (ofRuns n g t) (ofRuns n g u) p mask Checked.Yes
+  pub check-yes : r ≡ 0 → AllNamed n p → mask < 2 ^ n → Partnered n t u p mask → ChecksWitness n (ofRuns n g t) (ofRuns n g u) p mask Checked.Yes
   check-yes e w h into =
       Checks.yes (none e)
       (record {

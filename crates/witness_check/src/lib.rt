@@ -3,7 +3,7 @@ ghost use Prim.Native.Nat.{_≤_};
 ghost use Rattle.gf2.specs.Answers.{Tells};
 ghost use Rattle.regular.specs.Comparisons.{ChecksWitness};
 ghost use Rattle.regular.specs.Given.{ofRuns};
-ghost use Rattle.witness_check.specs.Names.{Named};
+ghost use Rattle.witness_check.specs.Names.{AllNamed};
 ghost use Rattle.witness_check.specs.Partners.{Partnered, NoPartner};
 use admission::array_of;
 use admission::lower_of;
@@ -17,7 +17,7 @@ use renaming::renamed;
 // Whether there are n names, each of the n factors being used once.
 fn each_once(n: usize, names: &[u8]) -> bool
     requires { ⌜ n ≤ 16 ⌝ }
-    ensures { λ r. ⌜ Tells r (Named n (now (names .entry))) (Named n (now (names .entry)) → ⊥) ⌝ }
+    ensures { λ r. ⌜ Tells r (AllNamed n (now (names .entry))) (AllNamed n (now (names .entry)) → ⊥) ⌝ }
 {
     if names.len() != n {
         return false;
@@ -40,7 +40,7 @@ fn each_once(n: usize, names: &[u8]) -> bool
 
 // Whether every run of the first table, renamed and switched, is a run of the second. The first run without a partner there ends both loops.
 fn partnered(n: usize, first: &[u16], second: &[u16], names: &[u8], mask: u16) -> bool
-    requires { ⌜ (n ≤ 16) × Named n (now names) ⌝ }
+    requires { ⌜ (n ≤ 16) × AllNamed n (now names) ⌝ }
     ensures { λ r. ⌜ Tells r (Partnered n (now (first .entry)) (now (second .entry)) (now (names .entry)) mask)
         (NoPartner n (now (first .entry)) (now (second .entry)) (now (names .entry)) mask) ⌝ }
 {

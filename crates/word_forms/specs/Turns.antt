@@ -13,7 +13,7 @@ use Rattle.gf2.specs.Digits.{bit, pick}
 use Rattle.gf2.specs.Fill.{Filled, fill-unused}
 use Rattle.gf2.specs.DigitLaws.{pow-most, pow-twice}
 use Rattle.regular.specs.Words.{total, Generated, Independent}
-use Rattle.standard.specs.Finding.{Found, is-found}
+use Rattle.standard.specs.Finding.{StandardFound, is-found}
 use Rattle.standard.specs.Total.{total-cols}
 use Rattle.words.specs.FromWords.{wc-at, pivots-words}
 use Rattle.words.specs.Model.{reduced, lastOf, freeBefore, wordColumns, Pivots}
@@ -122,7 +122,7 @@ unit-small n piv f unit h l e =
 
 -- the answer of `words_columns`
 pub found-done : (n g : ℕ) (ws piv a : List ℕ) → g ≤ n → Pivots n g ws piv → Filled (columnOf piv n) zeros16 n a
-    → Found n (n - g) (Independent g ws) (Generated n g ws) true a
+    → StandardFound n (n - g) (Independent g ws) (Generated n g ws) true a
 found-done n g ws piv a hg P fill =
     is-found n (n - g) (Independent g ws) (Generated n g ws) a (P .free)
     (standard-cols n (n - g) (Generated n g ws) (wordColumns piv n) a (pivots-words n g ws piv hg P) (λ f h. sym (fill .done f h)))

@@ -8,9 +8,10 @@ ghost use lib.ListN.{length, getD, replicate};
 ghost use Rattle.gf2.specs.Digits.{bit, pick};
 ghost use Rattle.gf2.specs.Fill.{Filled};
 ghost use Rattle.regular.specs.Words.{total, Generated, Independent};
-ghost use Rattle.standard.specs.Finding.{Found};
+ghost use Rattle.standard.specs.Finding.{StandardFound};
 ghost use Rattle.words.specs.Model.{reduced, lastOf, freeBefore};
 ghost use Rattle.word_forms.specs.Turns.{columnOf, Elimination};
+use regular::FACTORS;
 
 // Whether every word is below `end`.
 pub fn letters_below(ws: &[u16], end: usize) -> bool
@@ -39,7 +40,7 @@ fn clear(p: u16, v: u16, f: usize) -> u16
 }
 
 // w less the pivot words of its letters.
-fn reduce(piv: &[u16; 16], n: usize, w: u16) -> u16
+fn reduce(piv: &[u16; FACTORS], n: usize, w: u16) -> u16
     requires { ⌜ n ≤ 16 ⌝ }
     ensures { λ r. ⌜ r ≡ reduced (now (piv .entry)) n w ⌝ }
 {
@@ -70,7 +71,7 @@ fn last_of(n: usize, w: u16) -> usize
 // Whether the elimination went through, and the pivot words: the word with last letter f at place f, else 0.
 struct Pivoted {
     ok: bool,
-    piv: [u16; 16],
+    piv: [u16; FACTORS],
 }
 
 // The pivot words of the words, found exactly if they are independent.
@@ -78,7 +79,7 @@ fn eliminate(n: usize, ws: &[u16]) -> Pivoted
     requires { ⌜ (n ≤ 16) × ((i : ℕ) → i < length (now ws) → getD (now ws) i 0 < 2 ^ n) ⌝ }
     ensures { λ r. ⌜ Elimination n (length (now (ws .entry))) (now (ws .entry)) (r .ok) (r .piv) ⌝ }
 {
-    let mut piv = [0u16; 16];
+    let mut piv = [0u16; FACTORS];
     let mut i = 0;
     while i < ws.len() {
         let w = reduce(&piv, n, ws[i]);
@@ -104,7 +105,7 @@ fn plus(t: u8, c: u8, w: u16, g: usize) -> u8
 }
 
 // The sum of the columns of the letters of w below f.
-fn total_of(a: &[u8; 16], f: usize, w: u16) -> u8
+fn total_of(a: &[u8; FACTORS], f: usize, w: u16) -> u8
     requires { ⌜ f ≤ 16 ⌝ }
     ensures { λ r. ⌜ r ≡ total (now (a .entry)) f w ⌝ }
 {
@@ -118,7 +119,7 @@ fn total_of(a: &[u8; 16], f: usize, w: u16) -> u8
 }
 
 // The column of factor f with the pivot word p: the next unit if there is none, else the sum of its other letters' columns.
-fn column(a: &[u8; 16], f: usize, p: u16, unit: u16) -> u8
+fn column(a: &[u8; FACTORS], f: usize, p: u16, unit: u16) -> u8
     requires { ⌜ (f ≤ 16) × (unit ≤ 128) ⌝ }
     ensures { λ r. ⌜ r ≡ pick (eqb p 0) unit (total (now (a .entry)) f p) ⌝ }
 {
@@ -140,11 +141,11 @@ fn next_unit(p: u16, unit: u16) -> u16
 }
 
 // The standard columns, read off the pivot words.
-fn read_columns(n: usize, piv: [u16; 16]) -> [u8; 16]
+fn read_columns(n: usize, piv: [u16; FACTORS]) -> [u8; FACTORS]
     requires { ⌜ (n ≤ 16) × (freeBefore piv n ≤ 7) ⌝ }
     ensures { λ a. ⌜ Filled (columnOf piv n) (replicate 16 0) n a ⌝ }
 {
-    let mut a = [0u8; 16];
+    let mut a = [0u8; FACTORS];
     let mut unit: u16 = 1;
     let mut f = 0;
     while f < n {
@@ -159,14 +160,14 @@ fn read_columns(n: usize, piv: [u16; 16]) -> [u8; 16]
 // The standard columns of the plan that the words generate, found exactly if they are independent.
 pub fn words_columns(n: usize, ws: &[u16]) -> regular::Standardized
     requires { ⌜ (n ≤ 16) × (length (now ws) ≤ n) × (n ≤ length (now ws) + 7) × ((i : ℕ) → i < length (now ws) → getD (now ws) i 0 < 2 ^ n) ⌝ }
-    ensures { λ r. ⌜ Found n (n - length (now (ws .entry))) (Independent (length (now (ws .entry))) (now (ws .entry)))
+    ensures { λ r. ⌜ StandardFound n (n - length (now (ws .entry))) (Independent (length (now (ws .entry))) (now (ws .entry)))
         (Generated n (length (now (ws .entry))) (now (ws .entry))) (r .ok) (r .columns) ⌝ }
 {
     let e = eliminate(n, ws);
     if !e.ok {
         return regular::Standardized {
             ok: false,
-            columns: [0u8; 16],
+            columns: [0u8; FACTORS],
         };
     }
     let piv = e.piv;

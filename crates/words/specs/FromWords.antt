@@ -18,7 +18,7 @@ use Rattle.gf2.specs.Digits.{bit, odd, pick}
 use Rattle.gf2.specs.Parity.{odd-lin-l, odd-lt, odd-zero-l, odd-shift, odd-mod, odd-zero-r}
 use Rattle.regular.specs.Columns.{runOf}
 use Rattle.regular.specs.Words.{total, Generated, Independent}
-use Rattle.standard.specs.Basics.{Fits, fits-keep, fits-fresh}
+use Rattle.standard.specs.Basics.{ColumnFits, fits-keep, fits-fresh}
 use Rattle.standard.specs.FromTable.{run-is}
 use Rattle.standard.specs.Coordinates.{coord-lt}
 use Rattle.standard.specs.Model.{coordOf, choose}
@@ -160,13 +160,14 @@ module _ (n : ℕ) (piv : List ℕ) (lasts : Lasts n piv) where
         ∙ ap (λ (y : ℕ). (y + odd r w) % 2) (odd-shift f (bit f x) w (omega arith) ∙ omega (arith, last-bit f w q)) in
         omega (arith, odd-lt r w)
 
-    fits-at : (f : ℕ) (t : Bool) → f < n → eqb (getD piv f 0) 0 ≡ t → ((g : ℕ) → g < f → Fits (freeAt piv f) one g (getD a g 0))
-        → (g : ℕ) → g < suc f → Fits (choose t (f ∷ freeAt piv f) (freeAt piv f)) one g (getD a g 0)
+    fits-at : (f : ℕ) (t : Bool) → f < n → eqb (getD piv f 0) 0 ≡ t → ((g : ℕ) → g < f → ColumnFits (freeAt piv f) one g (getD a g 0))
+        → (g : ℕ) → g < suc f → ColumnFits (choose t (f ∷ freeAt piv f) (freeAt piv f)) one g (getD a g 0)
     fits-at f true h e ih g l =
         let z = eqb-true (getD piv f 0) 0 e in
         let le = free-length piv f in
         by-cases (ℕ-discrete g f)
-        (λ s. rw s (subst (λ (k : ℕ). Fits (f ∷ freeAt piv f) one f k) (ap (λ (k : ℕ). 2 ^ k) le ∙ sym (col-free f h z)) (fits-fresh (freeAt piv f) one f)))
+        (λ s. rw s (subst (λ (k : ℕ). ColumnFits (f ∷ freeAt piv f) one f k) (ap (λ (k : ℕ). 2 ^ k) le ∙ sym (col-free f h z))
+        (fits-fresh (freeAt piv f) one f)))
         (λ ne. fits-keep (freeAt piv f) one f g (getD a g 0) (subst (λ (k : ℕ). getD a g 0 < 2 ^ k) (sym le) (col-lt f g (omega arith) (omega arith)))
         (ih g (omega arith)))
     fits-at f false h e ih g l =
@@ -180,7 +181,7 @@ module _ (n : ℕ) (piv : List ℕ) (lasts : Lasts n piv) where
         (pivot-level f h z ∙ ap (λ (r : ℕ). odd r (getD piv f 0)) run ∙ sym (odd-total a f c (getD piv f 0)) ∙ ap (odd c) (sym (col-pivot f h z)))))
         (λ ne. ih g (omega arith))
 
-    fits-all : (f : ℕ) → f ≤ n → (g : ℕ) → g < f → Fits (freeAt piv f) one g (getD a g 0)
+    fits-all : (f : ℕ) → f ≤ n → (g : ℕ) → g < f → ColumnFits (freeAt piv f) one g (getD a g 0)
     unfolding freeAt
     fits-all zero h g l = absurd (omega arith)
     fits-all (suc f) h g l = fits-at f (eqb (getD piv f 0) 0) h refl (fits-all f (omega arith)) g l

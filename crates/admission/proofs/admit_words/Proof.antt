@@ -12,7 +12,7 @@ use Rattle.admission.specs.Faults.{words-0, words-4, words-5, words-6, w
 use Rattle.admission.specs.Admitting.{size-refused, accepted, plan-refused, standard-unswitched}
 use lib.ListN.{length, getD}
 use Rattle.regular.specs.Refusals.{wordsFaults, WordsFault}
-use Rattle.standard.specs.Finding.{Found}
+use Rattle.standard.specs.Finding.{StandardFound}
 use Rattle.regular.specs.Words.{Generated, Independent}
 use Rattle.standard.specs.Units.{standard-below, below-128}
 use Rattle.regular.specs.RefusalLaws.{words-least, words-faults-most}
@@ -54,12 +54,13 @@ abbrev start-4 : tie.After-words-columns → tie.Start
 start-4 c = start-3 (c .before)
 
 found : (c : tie.After-words-columns)
-    → Found (start-4 c .args .n) (start-4 c .args .n - start-4 c .args .g) (Independent (start-4 c .args .g) (words (start-4 c))) (plan (start-4 c))
+    → StandardFound (start-4 c .args .n) (start-4 c .args .n - start-4 c .args .g) (Independent (start-4 c .args .g) (words (start-4 c))) (plan (start-4 c))
     (c .words-columns .result .ok) (c .words-columns .result .columns)
 found c =
     let a = start-4 c .args in
     let d = c .words-columns in
-    subst (λ (k : ℕ). Found (a .n) (a .n - k) (Independent k (a .words .now)) (Generated (a .n) k (a .words .now)) (d .result .ok) (d .result .columns))
+    subst (λ (k : ℕ). StandardFound (a .n) (a .n - k) (Independent k (a .words .now)) (Generated (a .n) k (a .words .now))
+    (d .result .ok) (d .result .columns))
     (c .before .before .before .before .if2 .left) (d .ensures)
 
 size-number-requires : tie.Need-size-number-requires

@@ -42,7 +42,8 @@ module _ (c : tie.After-begin) where
     accepted : AcceptedPlans (start .args .n) (start .args .g) (start .args .r) (start .args .plans .now)
     accepted =
         let a = start .args in
-        let z = refusal-none (a .n) (planCount (a .n) (length (a .plans .now))) number (length (a .out .now)) (c .begin .result .number) e (opened .refusal) .plans in
+        let z = refusal-none (a .n) (planCount (a .n) (length (a .plans .now))) number (length (a .out .now)) (c .begin .result .number) e
+        (opened .refusal) .plans in
         plans-accepted (a .n) (a .g) (a .r) (a .plans .now) (subst (Lowest (wantedPlansFaults (a .n) (a .g) (a .r) (a .plans .now))) z lowest)
 
     room : bookLength (start .args .n) (planCount (start .args .n) (length (start .args .plans .now))) ≤ length bytes

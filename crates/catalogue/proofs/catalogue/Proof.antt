@@ -22,8 +22,10 @@ use prog.Wp.{Heap, Out, Env, afterSeq, afterBlock, afterTurn, Calls, Loops, Wp, 
 use ghost.Atoms.{Atoms, sem}
 use contract.Monad.{Fun, fact}
 use contract.Running.{givenOf, tables, tablesOf}
-use types.Kit.{Given, Item, ‵, raw, _⊛_, some, later, ⋆, runs, anyQ, atRet, Sq, _$_, _∵_, !, qed, by, move, keep, drop, use1, split, join, pick, rewrite, await, fsplit, fjoin, suffices, frame, done}
-use types.Run.{look, init, store, store-raw, forget, stop, hop, fld, from, load, lit, of-opd, bin, assigns, assigns-last, land, and-then, no-more, first, blocks, branches, returns-within, enter, alloc1, alloc0, params1, pass1, pass0, free1, free0, exec, Below, again, loops}
+use types.Kit.{Given, Item, ‵, raw, _⊛_, some, later, ⋆, runs, anyQ, atRet, Sq, _$_, _∵_, !, qed, by, move}
+use types.Kit.{keep, drop, use1, split, join, pick, rewrite, await, fsplit, fjoin, suffices, frame, done}
+use types.Run.{look, init, store, store-raw, forget, stop, hop, fld, from, load, lit, of-opd, bin, assigns, assigns-last, land, and-then, no-more}
+use types.Run.{first, blocks, branches, returns-within, enter, alloc1, alloc0, params1, pass1, pass0, free1, free0, exec, Below, again, loops}
 use types.Part.{whole, sub, look-in}
 use sound.WpLaws.{fmOf, WpFn-mono}
 use denote.RattleType.{owns}
@@ -49,7 +51,7 @@ use denote.Triple.Walked.{says, Stays, stay-slice, stay-none, walkOf, goes-slice
 use denote.Exit.{yes}
 use Rattle.regular.specs.declared.Design.{Design}
 use Rattle.regular.specs.declared.CatalogueAnswer.{CatalogueAnswer}
-use Rattle.entries.specs.Tracing.{Followed}
+use Rattle.entries.specs.Tracing.{StateOf}
 use Rattle.regular.specs.Designs.{blank, designBytes, offset-fits}
 use Rattle.catalogue.specs.declared.NextStop.{NextStop}
 use Rattle.catalogue.specs.declared.Stop.{Stop}
@@ -97,15 +99,17 @@ module _ {M : Type 1} (𝓤 : URA M) (H : Heap 𝓤) (A : Atoms 𝓤) (mem : Mem
   Stp = tripleOf 𝓤 H A stp.signature (stp.spec 𝓤 H A mem run)
 
   abbrev FirstStop : Stop → Type 0
-  FirstStop d = (d .design ≡ blank) × Followed 0 [] (d .trail)
+  FirstStop d = (d .design ≡ blank) × StateOf 0 [] (d .trail)
 
   beg-of : (d : Stop) → ent 𝓤 (ensured 𝓤 H A beg.ended (beg.clauses 𝓤 H A mem run) tt tt tt d) (fact 𝓤 (FirstStop d))
   beg-of d = exE 𝓤 _ (λ ws. snd∗ 𝓤 (sem 𝓤 H A (lasts beg.ended tt tt ws)) (fact 𝓤 (FirstStop d)))
 
-  stp-of : (w g r i n : ℕ) (c : Stop) (u : NextStop) → ent 𝓤 (ensured 𝓤 H A stp.ended (stp.clauses 𝓤 H A mem run) tt (w, (g, (r, (i, (n, (c, tt)))))) tt u) (fact 𝓤 (StepAnswers w g r i n c u))
+  stp-of : (w g r i n : ℕ) (c : Stop) (u : NextStop)
+      → ent 𝓤 (ensured 𝓤 H A stp.ended (stp.clauses 𝓤 H A mem run) tt (w, (g, (r, (i, (n, (c, tt)))))) tt u) (fact 𝓤 (StepAnswers w g r i n c u))
   stp-of w g r i n c u = exE 𝓤 _ (λ ws. snd∗ 𝓤 (sem 𝓤 H A (lasts stp.ended tt (w, (g, (r, (i, (n, (c, tt)))))) ws)) (fact 𝓤 (StepAnswers w g r i n c u)))
 
-module _ {M : Type 1} (𝓤 : URA M) (H : Heap 𝓤) (A : Atoms 𝓤) (W : Given 𝓤 H A) (mem : Memory → SProp 𝓤) (run : Routine → Fun 𝓤) (κ : Lft) (q : Share) (b o : ℕ) (γ : GName) (w g r : ℕ) (ys : List Design) where
+module _ {M : Type 1} (𝓤 : URA M) (H : Heap 𝓤) (A : Atoms 𝓤) (W : Given 𝓤 H A) (mem : Memory → SProp 𝓤) (run : Routine → Fun 𝓤) (κ : Lft) (q : Share) (b o : ℕ)
+    (γ : GName) (w g r : ℕ) (ys : List Design) where
   abbrev n : ℕ
   n = length ys
 
@@ -138,14 +142,18 @@ module _ {M : Type 1} (𝓤 : URA M) (H : Heap 𝓤) (A : Atoms 𝓤) (W : Given
 
   module _ (room : Room T.the-row n) (w-fits : w < 2 ^ 64) (g-fits : g < 2 ^ 64) (r-fits : r < 2 ^ 64) where
     exits : (u : CatalogueAnswer) (zs : List Design) → Is R.the-row u (told u ∷ []) → length zs ≡ n → ListsDesigns w g r ys zs (u .number) (u .count)
-        → ent 𝓤 (⋆ 𝓤 H A (‵ (fobs γ (codedHoleys T.the-row .code (heres T.the-row zs))) ∷ ‵ (fbor κ (Held T.the-row (length zs) b o γ)) ∷ ‵ (flft κ q) ∷ [])) (Post (told u))
+        → ent 𝓤 (⋆ 𝓤 H A (‵ (fobs γ (codedHoleys T.the-row .code (heres T.the-row zs))) ∷ ‵ (fbor κ (Held T.the-row (length zs) b o γ)) ∷ ‵ (flft κ q) ∷ []))
+        (Post (told u))
     exits u zs is-u len e =
         qed W (‵ (fobs γ (codedHoleys T.the-row .code (heres T.the-row zs))) ∷ ‵ (fbor κ (Held T.the-row (length zs) b o γ)) ∷ ‵ (flft κ q) ∷ []) ∵
-        suffices ! _ (ends-at 𝓤 H A f.ended stayed (f.clauses 𝓤 H A mem run) W (((κ, tt), (q, tt), tt, a, at), tt) (told u) u (tt, (tt, (tt, (zs, tt)))) (tt, (tt, (tt, (len, tt))))) $ says ! e $
+        suffices ! _ (ends-at 𝓤 H A f.ended stayed (f.clauses 𝓤 H A mem run) W (((κ, tt), (q, tt), tt, a, at), tt) (told u) u (tt, (tt, (tt, (zs, tt))))
+        (tt, (tt, (tt, (len, tt))))) $ says ! e $
         nothing ! $ move ! (3 ∷ 0 ∷ []) $ join ! $ frame ! $
-        fjoin ! $ pureI ! (at-slice T.the-row (x zs) (s ∷ [])) (tt, (tt, tt)) (ap (λ (m : ℕ). sliceVal (b, o) m ∷ []) (sym len), subst (Room T.the-row) (sym len) room) $ fjoin ! $
+        fjoin ! $ pureI ! (at-slice T.the-row (x zs) (s ∷ [])) (tt, (tt, tt))
+        (ap (λ (m : ℕ). sliceVal (b, o) m ∷ []) (sym len), subst (Room T.the-row) (sym len) room) $ fjoin ! $
         nothing ! $ move ! (1 ∷ 0 ∷ []) $ fjoin ! $
-        owned ! usize (Is usize) (uint-makes 𝓤 H A W w64) r _ (refl, r-fits) $ fjoin ! $ owned ! usize (Is usize) (uint-makes 𝓤 H A W w64) g _ (refl, g-fits) $ fjoin ! $ owned ! usize (Is usize) (uint-makes 𝓤 H A W w64) w _ (refl, w-fits) $ fjoin ! $ frame ! $
+        owned ! usize (Is usize) (uint-makes 𝓤 H A W w64) r _ (refl, r-fits) $ fjoin ! $ owned ! usize (Is usize) (uint-makes 𝓤 H A W w64) g _ (refl, g-fits) $
+        fjoin ! $ owned ! usize (Is usize) (uint-makes 𝓤 H A W w64) w _ (refl, w-fits) $ fjoin ! $ frame ! $
         owned ! R.the-row (Is R.the-row) (LL.makes R.the-type R′.the-plain 𝓤 H A) u _ is-u $ done !
 
     -- the loop's state: i, the list as it stands, the last record, and what is known of them
@@ -171,22 +179,43 @@ module _ {M : Type 1} (𝓤 : URA M) (H : Heap 𝓤) (A : Atoms 𝓤) (W : Given
     goes-beg = qed W (‵ ftrue ∷ []) ∵ nothing ! $ join ! $ frame ! $ done !
 
     abbrev to-stp : Stop → ℕ → Stp 𝓤 H A mem run .Ghost
-    to-stp c i = ((tt, tt, tt, (w, (g, (r, (i, (n, (c, tt)))))), (vint w64 w ∷ [], (vint w64 g ∷ [], (vint w64 r ∷ [], (vint w64 i ∷ [], (vint w64 n ∷ [], (held c ∷ [], tt))))))), tt)
+    to-stp c i = (
+      (
+        tt,
+        tt,
+        tt,
+        (w, (g, (r, (i, (n, (c, tt)))))),
+        (vint w64 w ∷ [], (vint w64 g ∷ [], (vint w64 r ∷ [], (vint w64 i ∷ [], (vint w64 n ∷ [], (held c ∷ [], tt)))))),
+      ),
+      tt,
+    )
 
-    goes-stp : (c : Stop) (i : ℕ) → i < 2 ^ 64 → WalkAt w g r i (c .design .columns) (c .trail) → ent 𝓤 (sem 𝓤 H A (P.the-row .own c (held c ∷ []))) (Stp 𝓤 H A mem run .pre (to-stp c i))
+    goes-stp : (c : Stop) (i : ℕ) → i < 2 ^ 64 → WalkAt w g r i (c .design .columns) (c .trail)
+        → ent 𝓤 (sem 𝓤 H A (P.the-row .own c (held c ∷ []))) (Stp 𝓤 H A mem run .pre (to-stp c i))
     goes-stp c i i-fits go =
         qed W (‵ (P.the-row .own c (held c ∷ [])) ∷ []) ∵
-        says ! {P = onEntry 𝓤 H A stp.signature tt tt (w, (g, (r, (i, (n, (c, tt)))))) (vint w64 w ∷ [], (vint w64 g ∷ [], (vint w64 r ∷ [], (vint w64 i ∷ [], (vint w64 n ∷ [], (held c ∷ [], tt))))))} go $
+        says ! {P = onEntry 𝓤 H A stp.signature tt tt (w, (g, (r, (i, (n, (c, tt))))))
+        (vint w64 w ∷ [], (vint w64 g ∷ [], (vint w64 r ∷ [], (vint w64 i ∷ [], (vint w64 n ∷ [], (held c ∷ [], tt))))))} go $
         nothing ! $ move ! (1 ∷ 0 ∷ []) $ fjoin ! $
-        owned ! usize (Is usize) (uint-makes 𝓤 H A W w64) n _ (refl, room .0) $ fjoin ! $ owned ! usize (Is usize) (uint-makes 𝓤 H A W w64) i _ (refl, i-fits) $ fjoin ! $
-        owned ! usize (Is usize) (uint-makes 𝓤 H A W w64) r _ (refl, r-fits) $ fjoin ! $ owned ! usize (Is usize) (uint-makes 𝓤 H A W w64) g _ (refl, g-fits) $ fjoin ! $
+        owned ! usize (Is usize) (uint-makes 𝓤 H A W w64) n _ (refl, room .0) $ fjoin ! $
+        owned ! usize (Is usize) (uint-makes 𝓤 H A W w64) i _ (refl, i-fits) $ fjoin ! $
+        owned ! usize (Is usize) (uint-makes 𝓤 H A W w64) r _ (refl, r-fits) $ fjoin ! $ owned ! usize (Is usize) (uint-makes 𝓤 H A W w64) g _ (refl, g-fits) $
+        fjoin ! $
         owned ! usize (Is usize) (uint-makes 𝓤 H A W w64) w _ (refl, w-fits) $ fjoin ! $ nothing ! $ frame ! $ done !
 
     -- the state after a turn that found u
     after : (t : State) (u : NextStop) → StepAnswers w g r (t .0) n (t .1 .1 .0) u → Is P.the-row (u .stop) (held (u .stop) ∷ []) → T (u .found) → State
     after (i, (zs, (c, (le, (len, (is, so)))))) u e is-u yes =
-        let h = holds (u .found) yes in
-        (i + 1, (set zs i (u .stop .design), (u .stop, (add-one-le (listing-room w g r ys zs i c so u e h), (length-set zs i (u .stop .design) ∙ len, (is-u, listing-more w g r ys zs i c so u e h))))))
+        let h = holds (u .found) yes in (
+          i + 1,
+          (
+            set zs i (u .stop .design),
+            (
+              u .stop,
+              (add-one-le (listing-room w g r ys zs i c so u e h), (length-set zs i (u .stop .design) ∙ len, (is-u, listing-more w g r ys zs i c so u e h))),
+            ),
+          ),
+        )
 
     module _ (𝓣 : Tables 𝓤 H) (known : Triple 𝓤 (𝓣 .C #catalogue·step) (Stp 𝓤 H A mem run)) (l₀ l₁ l₂ l₃ l₄ l₅ l₆ l₇ l₈ l₉ l₁₀ l₁₁ : ℕ) where
       abbrev C : Calls 𝓤 H
@@ -196,13 +225,19 @@ module _ {M : Type 1} (𝓤 : URA M) (H : Heap 𝓤) (A : Atoms 𝓤) (W : Given
       Λ = 𝓣 .Λ
 
       abbrev En : Env 𝓤 H
-      En = (R′.mir, l₀) ∷ (word, l₁) ∷ (word, l₂) ∷ (word, l₃) ∷ (slice, l₄) ∷ (word, l₅) ∷ (P′.mir, l₆) ∷ (S′.mir, l₇) ∷ (word, l₈) ∷ (tyBool, l₉) ∷ (word, l₁₀) ∷ (tyPtr, l₁₁) ∷ []
+      En =
+          (R′.mir, l₀) ∷ (word, l₁) ∷ (word, l₂) ∷ (word, l₃) ∷ (slice, l₄) ∷ (word, l₅) ∷ (P′.mir, l₆) ∷ (S′.mir, l₇) ∷ (word, l₈) ∷ (tyBool, l₉)
+          ∷ (word, l₁₀) ∷ (tyPtr, l₁₁) ∷ []
 
       abbrev Ctx : ℕ → List Design → Stop → List (Item 𝓤)
-      Ctx i zs c = ‵ (row T.the-row fullShare zs b o) ∷ ‵ (fobor κ q (Held T.the-row n b o γ)) ∷ ‵ (fobs γ (codedHoleys T.the-row .code (heres T.the-row ys))) ∷ ‵ (fauth γ (codedHoleys T.the-row .code (heres T.the-row ys)))
-          ∷ ‵ (froom tyPtr l₁₁ 0) ∷ ‵ (fdies tyPtr l₁₁) ∷ ‵ (froom word l₁₀ 0) ∷ ‵ (fdies word l₁₀) ∷ ‵ (froom tyBool l₉ 0) ∷ ‵ (fdies tyBool l₉) ∷ ‵ (froom word l₈ 0) ∷ ‵ (fdies word l₈) ∷ ‵ (froom S′.mir l₇ 0) ∷ ‵ (fdies S′.mir l₇)
+      Ctx i zs c =
+          ‵ (row T.the-row fullShare zs b o) ∷ ‵ (fobor κ q (Held T.the-row n b o γ)) ∷ ‵ (fobs γ (codedHoleys T.the-row .code (heres T.the-row ys)))
+          ∷ ‵ (fauth γ (codedHoleys T.the-row .code (heres T.the-row ys)))
+          ∷ ‵ (froom tyPtr l₁₁ 0) ∷ ‵ (fdies tyPtr l₁₁) ∷ ‵ (froom word l₁₀ 0) ∷ ‵ (fdies word l₁₀) ∷ ‵ (froom tyBool l₉ 0) ∷ ‵ (fdies tyBool l₉)
+          ∷ ‵ (froom word l₈ 0) ∷ ‵ (fdies word l₈) ∷ ‵ (froom S′.mir l₇ 0) ∷ ‵ (fdies S′.mir l₇)
           ∷ ‵ (fat fullShare P′.mir l₆ 0 (held c)) ∷ ‵ (fdies P′.mir l₆) ∷ ‵ (fat fullShare word l₅ 0 (vint w64 i)) ∷ ‵ (fdies word l₅)
-          ∷ ‵ (fat fullShare slice l₄ 0 s) ∷ ‵ (fdies slice l₄) ∷ ‵ (fat fullShare word l₃ 0 (vint w64 r)) ∷ ‵ (fdies word l₃) ∷ ‵ (fat fullShare word l₂ 0 (vint w64 g)) ∷ ‵ (fdies word l₂) ∷ ‵ (fat fullShare word l₁ 0 (vint w64 w)) ∷ ‵ (fdies word l₁)
+          ∷ ‵ (fat fullShare slice l₄ 0 s) ∷ ‵ (fdies slice l₄) ∷ ‵ (fat fullShare word l₃ 0 (vint w64 r)) ∷ ‵ (fdies word l₃)
+          ∷ ‵ (fat fullShare word l₂ 0 (vint w64 g)) ∷ ‵ (fdies word l₂) ∷ ‵ (fat fullShare word l₁ 0 (vint w64 w)) ∷ ‵ (fdies word l₁)
           ∷ ‵ (froom R′.mir l₀ 0) ∷ ‵ (fdies R′.mir l₀) ∷ []
 
       abbrev At : State → List (Item 𝓤)
@@ -215,13 +250,19 @@ module _ {M : Type 1} (𝓤 : URA M) (H : Heap 𝓤) (A : Atoms 𝓤) (W : Given
       turns : (t : State) → Sq W (At t) (runs C Λ En m.turn-1 (anyQ (Ends t)))
       unfolding afterTurn after
       turns (i, (zs, (c, (le, (len, (is, so)))))) =
-          assigns ! (of-opd ! (load ! (from ! (fld ! refl (stop !))) (look-in ! 18 (sub ! 1 refl (whole !))))) (from ! (stop !)) (init ! 10 refl (tt, record { fits = room .0 })) $
+          assigns ! (of-opd ! (load ! (from ! (fld ! refl (stop !))) (look-in ! 18 (sub ! 1 refl (whole !))))) (from ! (stop !))
+          (init ! 10 refl (tt, record { fits = room .0 })) $
           -- the call
-          owned ! P.the-row (Is P.the-row) (LL.makes P.the-type P′.the-plain 𝓤 H A) c (held c ∷ []) is $ use1 W (raw (Stp 𝓤 H A mem run .pre (to-stp c i))) (goes-stp c i (fits i le) (so .progress .going)) $
+          owned ! P.the-row (Is P.the-row) (LL.makes P.the-type P′.the-plain 𝓤 H A) c (held c ∷ []) is $
+          use1 W (raw (Stp 𝓤 H A mem run .pre (to-stp c i))) (goes-stp c i (fits i le) (so .progress .going)) $
           calls-at ! (fmOf 𝓤 H (W .laws) 𝓣) (Stp 𝓤 H A mem run) known (to-stp c i)
-          (and-then ! (load ! (from ! (stop !)) (look ! 25 refl)) (and-then ! (load ! (from ! (stop !)) (look ! 23 refl)) (and-then ! (load ! (from ! (stop !)) (look ! 21 refl)) (and-then ! (load ! (from ! (stop !)) (look ! 17 refl)) (and-then ! (load ! (from ! (stop !)) (look ! 11 refl)) (and-then ! (load ! (from ! (stop !)) (look ! 15 refl)) (no-more !))))))) (λ v.
-          use1 W (later (some (λ (u : NextStop). (‵ ftrue ⊛ ‵ (S.the-row .own u (v ∷ []))) ⊛ raw (ensured 𝓤 H A stp.ended (stp.clauses 𝓤 H A mem run) tt (w, (g, (r, (i, (n, (c, tt)))))) tt u)))) (id⊢ 𝓤 _) $ await ! tt $ pick ! (λ u.
-          split ! $ move ! (1 ∷ []) $ use1 W (raw (fact 𝓤 (StepAnswers w g r i n c u))) (stp-of 𝓤 H A mem run w g r i n c u) $ heard ! (StepAnswers w g r i n c u) (λ e. split ! $ drop ! $
+          (and-then ! (load ! (from ! (stop !)) (look ! 25 refl)) (and-then ! (load ! (from ! (stop !)) (look ! 23 refl))
+          (and-then ! (load ! (from ! (stop !)) (look ! 21 refl)) (and-then ! (load ! (from ! (stop !)) (look ! 17 refl))
+          (and-then ! (load ! (from ! (stop !)) (look ! 11 refl)) (and-then ! (load ! (from ! (stop !)) (look ! 15 refl)) (no-more !))))))) (λ v.
+          use1 W (later (some (λ (u : NextStop). (‵ ftrue ⊛ ‵ (S.the-row .own u (v ∷ [])))
+          ⊛ raw (ensured 𝓤 H A stp.ended (stp.clauses 𝓤 H A mem run) tt (w, (g, (r, (i, (n, (c, tt)))))) tt u)))) (id⊢ 𝓤 _) $ await ! tt $ pick ! (λ u.
+          split ! $ move ! (1 ∷ []) $ use1 W (raw (fact 𝓤 (StepAnswers w g r i n c u))) (stp-of 𝓤 H A mem run w g r i n c u) $
+          heard ! (StepAnswers w g r i n c u) (λ e. split ! $ drop ! $
           facts ! S.the-row (Is S.the-row) (shows 𝓤 H A S.the-row) u (v ∷ []) (λ is-u.
           land ! (from ! (stop !)) (init ! 12 refl (LL.lawful S.the-type S′.the-laws 𝓤 H A W .typed u _ is-u .0)) $
           rewrite ! 12 (λ (y : Val). ‵ (fat fullShare S′.mir l₇ 0 y)) (ap only (LL.tells S.the-type S′.the-laws u (v ∷ []) is-u)) refl $
@@ -229,22 +270,33 @@ module _ {M : Type 1} (𝓤 : URA M) (H : Heap 𝓤) (A : Atoms 𝓤) (W : Given
           assigns ! (of-opd ! (load ! (from ! (fld ! refl (stop !))) (look-in ! 12 (sub ! 0 refl (whole !))))) (from ! (stop !)) (init ! 8 refl (tt, tt)) $
           branches ! (load ! (from ! (stop !)) (look ! 8 refl))
           (λ found.
-          assigns ! (of-opd ! (load ! (from ! (fld ! refl (stop !))) (look-in ! 12 (sub ! 1 refl (whole !))))) (from ! (stop !)) (store ! 14 refl (wts u is-u)) $
-          assigns ! (bin ! (load ! (from ! (stop !)) (look ! 16 refl)) (lit ! tt) (record { fits = place-fits u e found })) (from ! (stop !)) (init ! 6 refl (tt, record { fits = place-fits u e found })) $
-          assigns ! (bin ! (load ! (from ! (fld ! refl (stop !))) (look-in ! 18 (sub ! 0 refl (whole !)))) (load ! (from ! (stop !)) (look ! 6 refl)) tt) (from ! (stop !)) (init ! 4 refl (tt, tt)) $
+          assigns ! (of-opd ! (load ! (from ! (fld ! refl (stop !))) (look-in ! 12 (sub ! 1 refl (whole !))))) (from ! (stop !))
+          (store ! 14 refl (wts u is-u)) $
+          assigns ! (bin ! (load ! (from ! (stop !)) (look ! 16 refl)) (lit ! tt) (record { fits = place-fits u e found })) (from ! (stop !))
+          (init ! 6 refl (tt, record { fits = place-fits u e found })) $
+          assigns ! (bin ! (load ! (from ! (fld ! refl (stop !))) (look-in ! 18 (sub ! 0 refl (whole !)))) (load ! (from ! (stop !)) (look ! 6 refl)) tt)
+          (from ! (stop !)) (init ! 4 refl (tt, tt)) $
           rewrite ! 4 (λ (p : ℕ). ‵ (fat fullShare tyPtr l₁₁ 0 (vptr b p))) (sym (place-is designBytes o i)) refl $
-          elem-out ! T.the-row (Is T.the-row) (shows 𝓤 H A T.the-row) (LL.vals T.the-type T′.the-laws) (LL.tells T.the-type T′.the-laws) fullShare zs i (c .design) b o (in-list u e found) (λ _.
+          elem-out ! T.the-row (Is T.the-row) (shows 𝓤 H A T.the-row) (LL.vals T.the-type T′.the-laws) (LL.tells T.the-type T′.the-laws) fullShare zs i
+          (c .design) b o (in-list u e found) (λ _.
           -- [list[i]; what it owns; the others; the open borrow; obs; auth; _11; …]
-          assigns ! (of-opd ! (load ! (from ! (fld ! refl (stop !))) (look-in ! 16 (sub ! 0 refl (whole !))))) (from ! (hop ! (look ! 6 refl) (stop !))) (store-raw ! 0 refl (wt u is-u)) $
-          move ! (1 ∷ []) $ drop ! $ owned ! T.the-row (Is T.the-row) (LL.makes T.the-type T′.the-plain 𝓤 H A) (u .stop .design) _ (isd u is-u) $ move ! (1 ∷ 0 ∷ []) $ elem-put ! T.the-row fullShare zs i (u .stop .design) (mach (u .stop .design) ∷ []) b o (in-list u e found) $
-          assigns-last ! (bin ! (load ! (from ! (stop !)) (look ! 16 refl)) (lit ! tt) (record { fits = next-fits u e found })) (from ! (stop !)) (store ! 16 refl (tt, record { fits = next-fits u e found })) $
+          assigns ! (of-opd ! (load ! (from ! (fld ! refl (stop !))) (look-in ! 16 (sub ! 0 refl (whole !))))) (from ! (hop ! (look ! 6 refl) (stop !)))
+          (store-raw ! 0 refl (wt u is-u)) $
+          move ! (1 ∷ []) $ drop ! $ owned ! T.the-row (Is T.the-row) (LL.makes T.the-type T′.the-plain 𝓤 H A) (u .stop .design) _ (isd u is-u) $
+          move ! (1 ∷ 0 ∷ []) $ elem-put ! T.the-row fullShare zs i (u .stop .design) (mach (u .stop .design) ∷ []) b o (in-list u e found) $
+          assigns-last ! (bin ! (load ! (from ! (stop !)) (look ! 16 refl)) (lit ! tt) (record { fits = next-fits u e found })) (from ! (stop !))
+          (store ! 16 refl (tt, record { fits = next-fits u e found })) $
           forget ! 4 refl $ forget ! 6 refl $ forget ! 8 refl $ forget ! 10 refl $ forget ! 12 refl $
           again ! Nearer At t (after t u e (iss u is-u) found) (add-one-dec n i (inside u e found))))
           (λ none.
-          assigns ! (of-opd ! (load ! (from ! (fld ! refl (stop !))) (look-in ! 12 (sub ! 2 refl (whole !))))) (from ! (stop !)) (init ! 26 refl (wta u is-u)) $
+          assigns ! (of-opd ! (load ! (from ! (fld ! refl (stop !))) (look-in ! 12 (sub ! 2 refl (whole !))))) (from ! (stop !))
+          (init ! 26 refl (wta u is-u)) $
           closes-slice ! tt T.the-row ys zs len b o $
-          returns-within ! Post refl (look ! 25 refl) $ forget ! 7 refl $ forget ! 9 refl $ forget ! 11 refl $ forget ! 13 refl $ forget ! 15 refl $ forget ! 17 refl $ forget ! 19 refl $ forget ! 21 refl $ forget ! 23 refl $ forget ! 25 refl $
-          move ! (25 ∷ 26 ∷ []) $ free1 ! $ move ! (23 ∷ 24 ∷ []) $ free1 ! $ move ! (21 ∷ 22 ∷ []) $ free1 ! $ move ! (19 ∷ 20 ∷ []) $ free1 ! $ move ! (17 ∷ 18 ∷ []) $ free1 ! $ move ! (15 ∷ 16 ∷ []) $ free1 ! $ move ! (13 ∷ 14 ∷ []) $ free1 ! $ move ! (11 ∷ 12 ∷ []) $ free1 ! $ move ! (9 ∷ 10 ∷ []) $ free1 ! $ move ! (7 ∷ 8 ∷ []) $ free1 ! $ move ! (5 ∷ 6 ∷ []) $ free1 ! $ move ! (3 ∷ 4 ∷ []) $ free1 ! $ free0 ! $
+          returns-within ! Post refl (look ! 25 refl) $ forget ! 7 refl $ forget ! 9 refl $ forget ! 11 refl $ forget ! 13 refl $ forget ! 15 refl $
+          forget ! 17 refl $ forget ! 19 refl $ forget ! 21 refl $ forget ! 23 refl $ forget ! 25 refl $
+          move ! (25 ∷ 26 ∷ []) $ free1 ! $ move ! (23 ∷ 24 ∷ []) $ free1 ! $ move ! (21 ∷ 22 ∷ []) $ free1 ! $ move ! (19 ∷ 20 ∷ []) $ free1 ! $
+          move ! (17 ∷ 18 ∷ []) $ free1 ! $ move ! (15 ∷ 16 ∷ []) $ free1 ! $ move ! (13 ∷ 14 ∷ []) $ free1 ! $ move ! (11 ∷ 12 ∷ []) $ free1 ! $
+          move ! (9 ∷ 10 ∷ []) $ free1 ! $ move ! (7 ∷ 8 ∷ []) $ free1 ! $ move ! (5 ∷ 6 ∷ []) $ free1 ! $ move ! (3 ∷ 4 ∷ []) $ free1 ! $ free0 ! $
           by ! (exits (u .answer) zs (isa u is-u) len (listing-stops w g r ys zs i c so u e (fails (u .found) none))))))))
         where
           t : State
@@ -280,39 +332,53 @@ module _ {M : Type 1} (𝓤 : URA M) (H : Heap 𝓤) (A : Atoms 𝓤) (W : Given
           next-fits : (u : NextStop) → StepAnswers w g r i n c u → T (u .found) → i + 1 < 2 ^ 64
           next-fits u e h = fits (i + 1) (add-one-le (inside u e h))
 
-    start : (d : Stop) → Is P.the-row d (held d ∷ []) → Followed 0 [] (d .trail) → State
+    start : (d : Stop) → Is P.the-row d (held d ∷ []) → StateOf 0 [] (d .trail) → State
     start d is-d h = (0, (ys, (d, (zero-le, (refl, (is-d, listing-none w g r ys d h))))))
 
-    looped : (𝓣 : Tables 𝓤 H) (known : Triple 𝓤 (𝓣 .C #catalogue·step) (Stp 𝓤 H A mem run)) (l₀ l₁ l₂ l₃ l₄ l₅ l₆ l₇ l₈ l₉ l₁₀ l₁₁ : ℕ) (d : Stop) → Is P.the-row d (held d ∷ []) → Followed 0 [] (d .trail)
-        → ent 𝓤 (⋆ 𝓤 H A (Ctx 𝓣 known l₀ l₁ l₂ l₃ l₄ l₅ l₆ l₇ l₈ l₉ l₁₀ l₁₁ 0 ys d)) (Wp 𝓤 H (𝓣 .C) (𝓣 .Λ) (En 𝓣 known l₀ l₁ l₂ l₃ l₄ l₅ l₆ l₇ l₈ l₉ l₁₀ l₁₁) m.t-3 (atReturn 𝓤 H (En 𝓣 known l₀ l₁ l₂ l₃ l₄ l₅ l₆ l₇ l₈ l₉ l₁₀ l₁₁) Post))
+    looped : (𝓣 : Tables 𝓤 H) (known : Triple 𝓤 (𝓣 .C #catalogue·step) (Stp 𝓤 H A mem run)) (l₀ l₁ l₂ l₃ l₄ l₅ l₆ l₇ l₈ l₉ l₁₀ l₁₁ : ℕ) (d : Stop)
+        → Is P.the-row d (held d ∷ []) → StateOf 0 [] (d .trail)
+        → ent 𝓤 (⋆ 𝓤 H A (Ctx 𝓣 known l₀ l₁ l₂ l₃ l₄ l₅ l₆ l₇ l₈ l₉ l₁₀ l₁₁ 0 ys d))
+        (Wp 𝓤 H (𝓣 .C) (𝓣 .Λ) (En 𝓣 known l₀ l₁ l₂ l₃ l₄ l₅ l₆ l₇ l₈ l₉ l₁₀ l₁₁) m.t-3 (atReturn 𝓤 H (En 𝓣 known l₀ l₁ l₂ l₃ l₄ l₅ l₆ l₇ l₈ l₉ l₁₀ l₁₁) Post))
     unfolding start
     looped 𝓣 known l₀ l₁ l₂ l₃ l₄ l₅ l₆ l₇ l₈ l₉ l₁₀ l₁₁ d is-d h =
-        qed W (At 𝓣 known l₀ l₁ l₂ l₃ l₄ l₅ l₆ l₇ l₈ l₉ l₁₀ l₁₁ (start d is-d h)) ∵ exec ! (𝓣 .C) (𝓣 .Λ) (En 𝓣 known l₀ l₁ l₂ l₃ l₄ l₅ l₆ l₇ l₈ l₉ l₁₀ l₁₁) m.t-3 (atRet (En 𝓣 known l₀ l₁ l₂ l₃ l₄ l₅ l₆ l₇ l₈ l₉ l₁₀ l₁₁) Post) $
-        first ! $ blocks ! $ loops ! 𝓣 Nearer Nearer-wf (At 𝓣 known l₀ l₁ l₂ l₃ l₄ l₅ l₆ l₇ l₈ l₉ l₁₀ l₁₁) (turns 𝓣 known l₀ l₁ l₂ l₃ l₄ l₅ l₆ l₇ l₈ l₉ l₁₀ l₁₁) (start d is-d h)
+        qed W (At 𝓣 known l₀ l₁ l₂ l₃ l₄ l₅ l₆ l₇ l₈ l₉ l₁₀ l₁₁ (start d is-d h))
+        ∵ exec ! (𝓣 .C) (𝓣 .Λ) (En 𝓣 known l₀ l₁ l₂ l₃ l₄ l₅ l₆ l₇ l₈ l₉ l₁₀ l₁₁) m.t-3 (atRet (En 𝓣 known l₀ l₁ l₂ l₃ l₄ l₅ l₆ l₇ l₈ l₉ l₁₀ l₁₁) Post) $
+        first ! $ blocks ! $
+        loops ! 𝓣 Nearer Nearer-wf (At 𝓣 known l₀ l₁ l₂ l₃ l₄ l₅ l₆ l₇ l₈ l₉ l₁₀ l₁₁) (turns 𝓣 known l₀ l₁ l₂ l₃ l₄ l₅ l₆ l₇ l₈ l₉ l₁₀ l₁₁) (start d is-d h)
 
     -- the body, up to the loop: the first record is called for, and the borrow is opened once
-    module _ (𝓣 : Tables 𝓤 H) (begun : Triple 𝓤 (𝓣 .C #catalogue·begin) (Beg 𝓤 H A mem run)) (known : Triple 𝓤 (𝓣 .C #catalogue·step) (Stp 𝓤 H A mem run)) (l₀ l₁ l₂ l₃ l₄ l₅ l₆ l₇ l₈ l₉ l₁₀ l₁₁ : ℕ) where
+    module _ (𝓣 : Tables 𝓤 H) (begun : Triple 𝓤 (𝓣 .C #catalogue·begin) (Beg 𝓤 H A mem run)) (known : Triple 𝓤 (𝓣 .C #catalogue·step) (Stp 𝓤 H A mem run))
+        (l₀ l₁ l₂ l₃ l₄ l₅ l₆ l₇ l₈ l₉ l₁₀ l₁₁ : ℕ) where
       abbrev Opening : List (Item 𝓤)
-      Opening = ‵ (froom tyPtr l₁₁ 0) ∷ ‵ (fdies tyPtr l₁₁) ∷ ‵ (froom word l₁₀ 0) ∷ ‵ (fdies word l₁₀) ∷ ‵ (froom tyBool l₉ 0) ∷ ‵ (fdies tyBool l₉) ∷ ‵ (froom word l₈ 0) ∷ ‵ (fdies word l₈) ∷ ‵ (froom S′.mir l₇ 0) ∷ ‵ (fdies S′.mir l₇)
+      Opening =
+          ‵ (froom tyPtr l₁₁ 0) ∷ ‵ (fdies tyPtr l₁₁) ∷ ‵ (froom word l₁₀ 0) ∷ ‵ (fdies word l₁₀) ∷ ‵ (froom tyBool l₉ 0) ∷ ‵ (fdies tyBool l₉)
+          ∷ ‵ (froom word l₈ 0) ∷ ‵ (fdies word l₈) ∷ ‵ (froom S′.mir l₇ 0) ∷ ‵ (fdies S′.mir l₇)
           ∷ ‵ (froom P′.mir l₆ 0) ∷ ‵ (fdies P′.mir l₆) ∷ ‵ (froom word l₅ 0) ∷ ‵ (fdies word l₅)
-          ∷ ‵ (fat fullShare slice l₄ 0 s) ∷ ‵ (fdies slice l₄) ∷ ‵ (fat fullShare word l₃ 0 (vint w64 r)) ∷ ‵ (fdies word l₃) ∷ ‵ (fat fullShare word l₂ 0 (vint w64 g)) ∷ ‵ (fdies word l₂) ∷ ‵ (fat fullShare word l₁ 0 (vint w64 w)) ∷ ‵ (fdies word l₁)
+          ∷ ‵ (fat fullShare slice l₄ 0 s) ∷ ‵ (fdies slice l₄) ∷ ‵ (fat fullShare word l₃ 0 (vint w64 r)) ∷ ‵ (fdies word l₃)
+          ∷ ‵ (fat fullShare word l₂ 0 (vint w64 g)) ∷ ‵ (fdies word l₂) ∷ ‵ (fat fullShare word l₁ 0 (vint w64 w)) ∷ ‵ (fdies word l₁)
           ∷ ‵ (froom R′.mir l₀ 0) ∷ ‵ (fdies R′.mir l₀)
           ∷ (‵ (flft κ q) ⊛ ‵ ftrue) ∷ ‵ (owns (usize ∷ usize ∷ usize ∷ MutSlice (named 0) κ T.the-row ∷ []) a at) ∷ []
 
-      begins : ent 𝓤 (⋆ 𝓤 H A Opening) (Wp 𝓤 H (𝓣 .C) (𝓣 .Λ) (En 𝓣 known l₀ l₁ l₂ l₃ l₄ l₅ l₆ l₇ l₈ l₉ l₁₀ l₁₁) m.t-1 (atReturn 𝓤 H (En 𝓣 known l₀ l₁ l₂ l₃ l₄ l₅ l₆ l₇ l₈ l₉ l₁₀ l₁₁) Post))
+      begins : ent 𝓤 (⋆ 𝓤 H A Opening) (Wp 𝓤 H (𝓣 .C) (𝓣 .Λ) (En 𝓣 known l₀ l₁ l₂ l₃ l₄ l₅ l₆ l₇ l₈ l₉ l₁₀ l₁₁) m.t-1
+          (atReturn 𝓤 H (En 𝓣 known l₀ l₁ l₂ l₃ l₄ l₅ l₆ l₇ l₈ l₉ l₁₀ l₁₁) Post))
       begins =
-          qed W Opening ∵ exec ! (𝓣 .C) (𝓣 .Λ) (En 𝓣 known l₀ l₁ l₂ l₃ l₄ l₅ l₆ l₇ l₈ l₉ l₁₀ l₁₁) m.t-1 (atRet (En 𝓣 known l₀ l₁ l₂ l₃ l₄ l₅ l₆ l₇ l₈ l₉ l₁₀ l₁₁) Post) $
+          qed W Opening ∵ exec ! (𝓣 .C) (𝓣 .Λ) (En 𝓣 known l₀ l₁ l₂ l₃ l₄ l₅ l₆ l₇ l₈ l₉ l₁₀ l₁₁) m.t-1
+          (atRet (En 𝓣 known l₀ l₁ l₂ l₃ l₄ l₅ l₆ l₇ l₈ l₉ l₁₀ l₁₁) Post) $
           assigns ! (of-opd ! (lit ! tt)) (from ! (stop !)) (init ! 12 refl (tt, record { fits = lit< tt })) $
           nothing ! $ use1 W (raw (Beg 𝓤 H A mem run .pre to-beg)) goes-beg $
           calls-at ! (fmOf 𝓤 H (W .laws) 𝓣) (Beg 𝓤 H A mem run) begun to-beg (no-more !) (λ v.
-          use1 W (later (some (λ (d : Stop). (‵ ftrue ⊛ ‵ (P.the-row .own d (v ∷ []))) ⊛ raw (ensured 𝓤 H A beg.ended (beg.clauses 𝓤 H A mem run) tt tt tt d)))) (id⊢ 𝓤 _) $ await ! tt $ pick ! (λ d.
-          split ! $ move ! (1 ∷ []) $ use1 W (raw (fact 𝓤 (FirstStop 𝓤 H A mem run d))) (beg-of 𝓤 H A mem run d) $ heard ! (FirstStop 𝓤 H A mem run d) (λ fd. split ! $ drop ! $
+          use1 W (later (some (λ (d : Stop). (‵ ftrue ⊛ ‵ (P.the-row .own d (v ∷ [])))
+          ⊛ raw (ensured 𝓤 H A beg.ended (beg.clauses 𝓤 H A mem run) tt tt tt d)))) (id⊢ 𝓤 _) $ await ! tt $ pick ! (λ d.
+          split ! $ move ! (1 ∷ []) $ use1 W (raw (fact 𝓤 (FirstStop 𝓤 H A mem run d))) (beg-of 𝓤 H A mem run d) $
+          heard ! (FirstStop 𝓤 H A mem run d) (λ fd. split ! $ drop ! $
           facts ! P.the-row (Is P.the-row) (shows 𝓤 H A P.the-row) d (v ∷ []) (λ is-v.
           land ! (from ! (stop !)) (init ! 10 refl (LL.lawful P.the-type P′.the-laws 𝓤 H A W .typed d _ is-v .0)) $
           rewrite ! 10 (λ (y : Val). ‵ (fat fullShare P′.mir l₆ 0 y)) (ap only (LL.tells P.the-type P′.the-laws d (v ∷ []) is-v)) refl $
-          move ! (25 ∷ []) $ fsplit ! $ move ! (1 ∷ []) $ fsplit ! $ move ! (1 ∷ []) $ fsplit ! $ move ! (1 ∷ []) $ fsplit ! $ fsplit ! $ move ! (1 ∷ []) $ fsplit ! $ move ! (31 ∷ []) $ split ! $ move ! (2 ∷ 3 ∷ 0 ∷ []) $ opens-slice ! tt T.the-row ys b o $
+          move ! (25 ∷ []) $ fsplit ! $ move ! (1 ∷ []) $ fsplit ! $ move ! (1 ∷ []) $ fsplit ! $ move ! (1 ∷ []) $ fsplit ! $ fsplit ! $ move ! (1 ∷ []) $
+          fsplit ! $ move ! (31 ∷ []) $ split ! $ move ! (2 ∷ 3 ∷ 0 ∷ []) $ opens-slice ! tt T.the-row ys b o $
           keep ! (0 ∷ 1 ∷ 2 ∷ 3 ∷ 10 ∷ 11 ∷ 12 ∷ 13 ∷ 14 ∷ 15 ∷ 16 ∷ 17 ∷ 18 ∷ 19 ∷ 20 ∷ 21 ∷ 22 ∷ 23 ∷ 24 ∷ 25 ∷ 26 ∷ 27 ∷ 28 ∷ 29 ∷ 30 ∷ 31 ∷ 32 ∷ 33 ∷ []) $
-          by ! (looped 𝓣 known l₀ l₁ l₂ l₃ l₄ l₅ l₆ l₇ l₈ l₉ l₁₀ l₁₁ d (subst (λ (y : Val). Is P.the-row d (y ∷ [])) (ap only (LL.tells P.the-type P′.the-laws d (v ∷ []) is-v)) is-v) (fd .1))))))
+          by ! (looped 𝓣 known l₀ l₁ l₂ l₃ l₄ l₅ l₆ l₇ l₈ l₉ l₁₀ l₁₁ d
+          (subst (λ (y : Val). Is P.the-row d (y ∷ [])) (ap only (LL.tells P.the-type P′.the-laws d (v ∷ []) is-v)) is-v) (fd .1))))))
 
     -- the locals are allocated and the arguments stored, for any body: so the kernel does not carry the body through each step
     abbrev shell : Body → Fn
@@ -320,35 +386,53 @@ module _ {M : Type 1} (𝓤 : URA M) (H : Heap 𝓤) (A : Atoms 𝓤) (W : Given
       lifetimes = 1;
       outlives = [];
       params = 4;
-      locals = local R′.mir valueLocal ∷ local word valueLocal ∷ local word valueLocal ∷ local word valueLocal ∷ local slice valueLocal ∷ local word valueLocal ∷ local P′.mir valueLocal ∷ local S′.mir valueLocal ∷ local word valueLocal ∷ local tyBool valueLocal ∷ local word valueLocal ∷ local tyPtr valueLocal ∷ [];
+      locals = local R′.mir valueLocal ∷ local word valueLocal ∷ local word valueLocal ∷ local word valueLocal ∷ local slice valueLocal ∷ local word valueLocal
+          ∷ local P′.mir valueLocal ∷ local S′.mir valueLocal ∷ local word valueLocal ∷ local tyBool valueLocal ∷ local word valueLocal
+          ∷ local tyPtr valueLocal ∷ [];
       body = body;
     }
 
-    enters : (𝓣 : Tables 𝓤 H) (begun : Triple 𝓤 (𝓣 .C #catalogue·begin) (Beg 𝓤 H A mem run)) (known : Triple 𝓤 (𝓣 .C #catalogue·step) (Stp 𝓤 H A mem run)) (body : Body) (Kf : Val → SProp 𝓤)
-        → ((l₀ l₁ l₂ l₃ l₄ l₅ l₆ l₇ l₈ l₉ l₁₀ l₁₁ : ℕ) → ent 𝓤 (⋆ 𝓤 H A (Opening 𝓣 begun known l₀ l₁ l₂ l₃ l₄ l₅ l₆ l₇ l₈ l₉ l₁₀ l₁₁)) (Wp 𝓤 H (𝓣 .C) (𝓣 .Λ) (En 𝓣 known l₀ l₁ l₂ l₃ l₄ l₅ l₆ l₇ l₈ l₉ l₁₀ l₁₁) body (atReturn 𝓤 H (En 𝓣 known l₀ l₁ l₂ l₃ l₄ l₅ l₆ l₇ l₈ l₉ l₁₀ l₁₁) Kf)))
+    enters : (𝓣 : Tables 𝓤 H) (begun : Triple 𝓤 (𝓣 .C #catalogue·begin) (Beg 𝓤 H A mem run)) (known : Triple 𝓤 (𝓣 .C #catalogue·step) (Stp 𝓤 H A mem run))
+        (body : Body) (Kf : Val → SProp 𝓤)
+        → ((l₀ l₁ l₂ l₃ l₄ l₅ l₆ l₇ l₈ l₉ l₁₀ l₁₁ : ℕ) → ent 𝓤 (⋆ 𝓤 H A (Opening 𝓣 begun known l₀ l₁ l₂ l₃ l₄ l₅ l₆ l₇ l₈ l₉ l₁₀ l₁₁))
+        (Wp 𝓤 H (𝓣 .C) (𝓣 .Λ) (En 𝓣 known l₀ l₁ l₂ l₃ l₄ l₅ l₆ l₇ l₈ l₉ l₁₀ l₁₁) body (atReturn 𝓤 H (En 𝓣 known l₀ l₁ l₂ l₃ l₄ l₅ l₆ l₇ l₈ l₉ l₁₀ l₁₁) Kf)))
         → ent 𝓤 (onEntry 𝓤 H A f.signature (κ, tt) (q, tt) a at) (WpFn 𝓤 H (𝓣 .C) (𝓣 .Λ) (shell body) (vint w64 w ∷ vint w64 g ∷ vint w64 r ∷ s ∷ []) Kf)
     enters 𝓣 begun known body Kf k =
-        qed W ((‵ (flft κ q) ⊛ ‵ ftrue) ∷ ‵ (owns (usize ∷ usize ∷ usize ∷ MutSlice (named 0) κ T.the-row ∷ []) a at) ∷ []) ∵ enter ! (𝓣 .C) (𝓣 .Λ) (shell body) (vint w64 w ∷ vint w64 g ∷ vint w64 r ∷ s ∷ []) Kf $
-        alloc1 ! (λ l₀. alloc1 ! (λ l₁. alloc1 ! (λ l₂. alloc1 ! (λ l₃. alloc1 ! (λ l₄. alloc1 ! (λ l₅. alloc1 ! (λ l₆. alloc1 ! (λ l₇. alloc1 ! (λ l₈. alloc1 ! (λ l₉. alloc1 ! (λ l₁₀. alloc1 ! (λ l₁₁. alloc0 ! $ params1 ! $
-        pass1 ! (init ! 20 refl (tt, record { fits = w-fits })) $ pass1 ! (init ! 18 refl (tt, record { fits = g-fits })) $ pass1 ! (init ! 16 refl (tt, record { fits = r-fits })) $ pass1 ! (init ! 14 refl (tt, (tt, (record { fits = room .0 }, tt)))) $ pass0 ! $
+        qed W ((‵ (flft κ q) ⊛ ‵ ftrue) ∷ ‵ (owns (usize ∷ usize ∷ usize ∷ MutSlice (named 0) κ T.the-row ∷ []) a at) ∷ [])
+        ∵ enter ! (𝓣 .C) (𝓣 .Λ) (shell body) (vint w64 w ∷ vint w64 g ∷ vint w64 r ∷ s ∷ []) Kf $
+        alloc1 ! (λ l₀. alloc1 ! (λ l₁. alloc1 ! (λ l₂. alloc1 ! (λ l₃.
+        alloc1 ! (λ l₄. alloc1 ! (λ l₅.
+        alloc1 ! (λ l₆. alloc1 ! (λ l₇. alloc1 ! (λ l₈. alloc1 ! (λ l₉. alloc1 ! (λ l₁₀. alloc1 ! (λ l₁₁. alloc0 ! $ params1 ! $
+        pass1 ! (init ! 20 refl (tt, record { fits = w-fits })) $ pass1 ! (init ! 18 refl (tt, record { fits = g-fits })) $
+        pass1 ! (init ! 16 refl (tt, record { fits = r-fits })) $ pass1 ! (init ! 14 refl (tt, (tt, (record { fits = room .0 }, tt)))) $ pass0 ! $
         by ! (k l₀ l₁ l₂ l₃ l₄ l₅ l₆ l₇ l₈ l₉ l₁₀ l₁₁)))))))))))))
 
-    walk : (𝓣 : Tables 𝓤 H) → Triple 𝓤 (𝓣 .C #catalogue·begin) (Beg 𝓤 H A mem run) → Triple 𝓤 (𝓣 .C #catalogue·step) (Stp 𝓤 H A mem run) → ent 𝓤 (onEntry 𝓤 H A f.signature (κ, tt) (q, tt) a at) (WpFn 𝓤 H (𝓣 .C) (𝓣 .Λ) code.function (vint w64 w ∷ vint w64 g ∷ vint w64 r ∷ s ∷ []) Post)
+    walk : (𝓣 : Tables 𝓤 H) → Triple 𝓤 (𝓣 .C #catalogue·begin) (Beg 𝓤 H A mem run) → Triple 𝓤 (𝓣 .C #catalogue·step) (Stp 𝓤 H A mem run)
+        → ent 𝓤 (onEntry 𝓤 H A f.signature (κ, tt) (q, tt) a at) (WpFn 𝓤 H (𝓣 .C) (𝓣 .Λ) code.function (vint w64 w ∷ vint w64 g ∷ vint w64 r ∷ s ∷ []) Post)
     walk 𝓣 begun known = enters 𝓣 begun known m.t-1 Post (begins 𝓣 begun known)
 
 module _ {M : Type 1} (𝓤 : URA M) (H : Heap 𝓤) (A : Atoms 𝓤) (W : Given 𝓤 H A) (mem : Memory → SProp 𝓤) (run : Routine → Fun 𝓤) where
-  catalogue-walks : (𝓣 : Tables 𝓤 H) → Triple 𝓤 (𝓣 .C #catalogue·begin) (Beg 𝓤 H A mem run) → Triple 𝓤 (𝓣 .C #catalogue·step) (Stp 𝓤 H A mem run) → Walks 𝓤 H A f.ended stayed (WpFn 𝓤 H (𝓣 .C) (𝓣 .Λ) code.function) (f.clauses 𝓤 H A mem run)
+  catalogue-walks : (𝓣 : Tables 𝓤 H) → Triple 𝓤 (𝓣 .C #catalogue·begin) (Beg 𝓤 H A mem run) → Triple 𝓤 (𝓣 .C #catalogue·step) (Stp 𝓤 H A mem run)
+      → Walks 𝓤 H A f.ended stayed (WpFn 𝓤 H (𝓣 .C) (𝓣 .Λ) code.function) (f.clauses 𝓤 H A mem run)
   catalogue-walks 𝓣 begun known = walked 𝓤 H A f.ended stayed (f.clauses 𝓤 H A mem run) (WpFn 𝓤 H (𝓣 .C) (𝓣 .Λ) code.function)
-      (λ κs. (uint-vals w64, (uint-vals w64, (uint-vals w64, (slice-vals, tt))))) (λ κs. (uint-tells w64, (uint-tells w64, (uint-tells w64, (mut-slice-tells (named 0) (κs .0) T.the-row, tt)))))
+      (λ κs. (uint-vals w64, (uint-vals w64, (uint-vals w64, (slice-vals, tt)))))
+      (λ κs. (uint-tells w64, (uint-tells w64, (uint-tells w64, (mut-slice-tells (named 0) (κs .0) T.the-row, tt)))))
       (λ κs qs bounds a g are. via 𝓤 _ (fst∗ 𝓤 _ (emp 𝓤))
-      (walk 𝓤 H A W mem run (κs .0) (qs .0) (a .1 .1 .1 .0 .ptr .0) (a .1 .1 .1 .0 .ptr .1) (a .1 .1 .1 .0 .name) (a .0) (a .1 .0) (a .1 .1 .0) (a .1 .1 .1 .0 .now)
+      (walk 𝓤 H A W mem run (κs .0) (qs .0) (a .1 .1 .1 .0 .ptr .0) (a .1 .1 .1 .0 .ptr .1) (a .1 .1 .1 .0 .name) (a .0) (a .1 .0)
+      (a .1 .1 .0) (a .1 .1 .1 .0 .now)
       (are .1 .1 .1 .0 .0 .1) (are .0 .1) (are .1 .0 .1) (are .1 .1 .0 .1) 𝓣 begun known))
 
-catalogue-meets : {M : Type 1} (𝓤 : URA M) (H : Heap 𝓤) (A : Atoms 𝓤) → Given 𝓤 H A → (mem : Memory → SProp 𝓤) (run : Routine → Fun 𝓤) (𝓣 : Tables 𝓤 H) → Triple 𝓤 (𝓣 .C #catalogue·begin) (Beg 𝓤 H A mem run) → Triple 𝓤 (𝓣 .C #catalogue·step) (Stp 𝓤 H A mem run)
+catalogue-meets : {M : Type 1} (𝓤 : URA M) (H : Heap 𝓤) (A : Atoms 𝓤) → Given 𝓤 H A → (mem : Memory → SProp 𝓤) (run : Routine → Fun 𝓤) (𝓣 : Tables 𝓤 H)
+    → Triple 𝓤 (𝓣 .C #catalogue·begin) (Beg 𝓤 H A mem run) → Triple 𝓤 (𝓣 .C #catalogue·step) (Stp 𝓤 H A mem run)
     → Meets 𝓤 H A f.signature (WpFn 𝓤 H (𝓣 .C) (𝓣 .Λ) code.function) (f.spec 𝓤 H A mem run)
 catalogue-meets 𝓤 H A W mem run 𝓣 begun known =
-    walk-meets 𝓤 H A f.ended stayed W
-    (goes-none 𝓤 H A W 1 (λ _. usize) yes (λ κs x f. refl), (goes-none 𝓤 H A W 1 (λ _. usize) yes (λ κs x f. refl), (goes-none 𝓤 H A W 1 (λ _. usize) yes (λ κs x f. refl), (goes-slice 𝓤 H A W 1 0 tt (plain (λ _. T.the-row)), tt)))) (f.clauses 𝓤 H A mem run)
+    walk-meets 𝓤 H A f.ended stayed W (
+      goes-none 𝓤 H A W 1 (λ _. usize) yes (λ κs x f. refl),
+      (
+        goes-none 𝓤 H A W 1 (λ _. usize) yes (λ κs x f. refl),
+        (goes-none 𝓤 H A W 1 (λ _. usize) yes (λ κs x f. refl), (goes-slice 𝓤 H A W 1 0 tt (plain (λ _. T.the-row)), tt)),
+      ),
+    ) (f.clauses 𝓤 H A mem run)
     (WpFn 𝓤 H (𝓣 .C) (𝓣 .Λ) code.function) (WpFn-mono 𝓤 H (W .laws) 𝓣 code.function) (catalogue-walks 𝓤 H A W mem run 𝓣 begun known)
 
 pub catalogue-spec : {M : Type 1} → stated.statement M

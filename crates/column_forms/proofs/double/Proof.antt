@@ -4,14 +4,14 @@ use Prim.Native.Nat.{_-_, _<_, _≤_}
 use native.Mathlib.Omega.{arith}
 use lib.ListN.{length, getD}
 use lib.Bits.{xor-lt}
-use Rattle.column_forms.specs.Tables.{Grown}
+use Rattle.column_forms.specs.Tables.{SumsGrown}
 use Rattle.column_forms.specs.TableLaws.{grown-none, grown-more, grown-all}
 use borrow.Author.Needs.{needs}
 use Rattle.column_forms.proofs.double.Statement.{statement}
 use Rattle.column_forms.proofs.double.Tie as tie
 
 abbrev Inv-loop : tie.InvT-loop
-Inv-loop c half sums₀ places₀ k₀ sums places k = (k ≤ half) × (length sums ≡ 128) × (length places ≡ 128) × Grown c half k sums₀ places₀ sums places
+Inv-loop c half sums₀ places₀ k₀ sums places k = (k ≤ half) × (length sums ≡ 128) × (length places ≡ 128) × SumsGrown c half k sums₀ places₀ sums places
 
 abbrev μ-loop : tie.MeasureT-loop
 μ-loop c half sums₀ places₀ k₀ sums places k = half - k

@@ -5,7 +5,7 @@ use Prim.Native.Nat.{ℕ, _-_, _*_, _%_, _^_, _≤_}
 use native.Mathlib.Omega.{arith}
 use lib.ListN.{length}
 use lib.Pow.{shl-exact}
-use Rattle.column_forms.specs.Walk.{Walk, walk-none, walk-old, walk-new, walk-room, walk-sums, walk-full, walk-short}
+use Rattle.column_forms.specs.Walk.{ColumnWalk, walk-none, walk-old, walk-new, walk-room, walk-sums, walk-full, walk-short}
 use borrow.Author.Needs.{needs}
 use Rattle.gf2.specs.DigitLaws.{pow-most}
 use Rattle.column_forms.proofs.standardize.Statement.{statement}
@@ -13,7 +13,7 @@ use Rattle.column_forms.proofs.standardize.Tie as tie
 
 abbrev Inv-loop : tie.InvT-loop
 Inv-loop n m cols columns₀ sums₀ places₀ half₀ f₀ columns sums places half f =
-    (f ≤ n) × (length columns ≡ 16) × (length sums ≡ 128) × (length places ≡ 128) × Walk n m cols f half sums places columns
+    (f ≤ n) × (length columns ≡ 16) × (length sums ≡ 128) × (length places ≡ 128) × ColumnWalk n m cols f half sums places columns
 
 abbrev μ-loop : tie.MeasureT-loop
 μ-loop n m cols columns₀ sums₀ places₀ half₀ f₀ columns sums places half f = n - f

@@ -1,4 +1,4 @@
--- `generators::generators` meets its contract. The loop's invariant is `Walked`: after f factors the basics stand in their array as letters, and
+-- `generators::generators` meets its contract. The loop's invariant is `WordsWalk`: after f factors the basics stand in their array as letters, and
 -- the words of the others in theirs. A turn puts one factor into one of the two. The measure is what is left of n. Assumes nothing.
 use mathlib.Core.Path.{_≡_, refl, ap, ap₂, _∙_}
 use Prim.Native.Nat.{_*_, _-_, _≤_, _^_}
@@ -7,12 +7,12 @@ use borrow.Author.Needs.{needs}
 use lib.Bits.{bitXor}
 use lib.ListN.{getD}
 use Rattle.regular.specs.Words.{total}
-use Rattle.generators.specs.Walk.{Walked, walked-none, walked-basic, walked-word, walked-all}
+use Rattle.generators.specs.Walk.{WordsWalk, walked-none, walked-basic, walked-word, walked-all}
 use Rattle.generators.proofs.generators.Statement.{statement}
 use Rattle.generators.proofs.generators.Tie as tie
 
 abbrev Inv-loop : tie.InvT-loop
-Inv-loop n columns words₀ basics₀ unit₀ m₀ f₀ words basics unit m f = (f ≤ n) × Walked columns f m unit basics words
+Inv-loop n columns words₀ basics₀ unit₀ m₀ f₀ words basics unit m f = (f ≤ n) × WordsWalk columns f m unit basics words
 
 abbrev μ-loop : tie.MeasureT-loop
 μ-loop n columns words₀ basics₀ unit₀ m₀ f₀ words basics unit m f = n - f

@@ -23,8 +23,10 @@ use prog.Wp.{Heap, Out, Env, afterSeq, afterBlock, afterTurn, Calls, Loops, Wp, 
 use ghost.Atoms.{Atoms, sem}
 use contract.Monad.{Fun, fact}
 use contract.Running.{givenOf, tables, tablesOf}
-use types.Kit.{Given, Item, ‵, raw, _⊛_, some, later, ⋆, runs, anyQ, atRet, Sq, _$_, _∵_, !, qed, by, move, keep, drop as toss, use1, split, join, pick, rewrite, await, fsplit, fjoin, suffices, frame, done}
-use types.Run.{look, look-raw, init, store, forget, stop, hop, fld, from, load, lit, of-opd, bin, assigns, assigns-last, land, and-then, no-more, first, blocks, stays, leaves-loop, returns, enter, alloc1, alloc0, params1, pass1, pass0, free1, free0, exec, Below, again, loops}
+use types.Kit.{Given, Item, ‵, raw, _⊛_, some, later, ⋆, runs, anyQ, atRet, Sq, _$_, _∵_, !, qed, by, move, keep}
+use types.Kit.{drop as toss, use1, split, join, pick, rewrite, await, fsplit, fjoin, suffices, frame, done}
+use types.Run.{look, look-raw, init, store, forget, stop, hop, fld, from, load, lit, of-opd, bin, assigns, assigns-last, land, and-then, no-more}
+use types.Run.{first, blocks, stays, leaves-loop, returns, enter, alloc1, alloc0, params1, pass1, pass0, free1, free0, exec, Below, again, loops}
 use types.Part.{whole, sub, look-in}
 use types.Share.{arr-parts}
 use sound.WpLaws.{fmOf, WpFn-mono}
@@ -77,10 +79,12 @@ module _ {M : Type 1} (𝓤 : URA M) (H : Heap 𝓤) (A : Atoms 𝓤) (mem : Mem
   abbrev Look : Contract 𝓤
   Look = tripleOf 𝓤 H A step.signature (step.spec 𝓤 H A mem run)
 
-  look-of : (t j : ℕ) (c d : Design) (r : ℕ) → ent 𝓤 (ensured 𝓤 H A step.ended (step.clauses 𝓤 H A mem run) tt (t, (j, (c, (d, tt)))) tt r) (fact 𝓤 (Looked t j (c ≡ d) r))
+  look-of : (t j : ℕ) (c d : Design) (r : ℕ)
+      → ent 𝓤 (ensured 𝓤 H A step.ended (step.clauses 𝓤 H A mem run) tt (t, (j, (c, (d, tt)))) tt r) (fact 𝓤 (Looked t j (c ≡ d) r))
   look-of t j c d r = exE 𝓤 _ (λ ws. snd∗ 𝓤 (sem 𝓤 H A (lasts step.ended tt (t, (j, (c, (d, tt)))) ws)) (fact 𝓤 (Looked t j (c ≡ d) r)))
 
-module _ {M : Type 1} (𝓤 : URA M) (H : Heap 𝓤) (A : Atoms 𝓤) (W : Given 𝓤 H A) (mem : Memory → SProp 𝓤) (run : Routine → Fun 𝓤) (κ : Lft) (q : Share) (b o : ℕ) (γ : GName) (ys : List Design) (d : Design) where
+module _ {M : Type 1} (𝓤 : URA M) (H : Heap 𝓤) (A : Atoms 𝓤) (W : Given 𝓤 H A) (mem : Memory → SProp 𝓤) (run : Routine → Fun 𝓤) (κ : Lft) (q : Share) (b o : ℕ)
+    (γ : GName) (ys : List Design) (d : Design) where
   abbrev n : ℕ
   n = length ys
 
@@ -112,8 +116,10 @@ module _ {M : Type 1} (𝓤 : URA M) (H : Heap 𝓤) (A : Atoms 𝓤) (W : Given
     exits : (t : ℕ) → t < 2 ^ 64 → DesignPlace ys d t → ent 𝓤 (⋆ 𝓤 H A (‵ (flft κ q) ∷ ‵ Own ∷ [])) (Post (vint w64 t))
     exits t t-fits e =
         qed W (‵ (flft κ q) ∷ ‵ Own ∷ []) ∵
-        suffices ! _ (ends-at 𝓤 H A f.ended stayed (f.clauses 𝓤 H A mem run) W (((κ, tt), (q, tt), tt, a, at), tt) (vint w64 t) t (tt, (tt, tt)) (tt, (tt, tt))) $ says ! e $
-        nothing ! $ move ! (1 ∷ 0 ∷ []) $ join ! $ nothing ! $ owned ! T.the-row (Is T.the-row) (LL.makes T.the-type T′.the-plain 𝓤 H A) d _ is-d $ fjoin ! $ move ! (2 ∷ 0 ∷ []) $ fjoin ! $ move ! (1 ∷ 0 ∷ []) $
+        suffices ! _ (ends-at 𝓤 H A f.ended stayed (f.clauses 𝓤 H A mem run) W (((κ, tt), (q, tt), tt, a, at), tt) (vint w64 t) t (tt, (tt, tt))
+        (tt, (tt, tt))) $ says ! e $
+        nothing ! $ move ! (1 ∷ 0 ∷ []) $ join ! $ nothing ! $ owned ! T.the-row (Is T.the-row) (LL.makes T.the-type T′.the-plain 𝓤 H A) d _ is-d $ fjoin ! $
+        move ! (2 ∷ 0 ∷ []) $ fjoin ! $ move ! (1 ∷ 0 ∷ []) $
         frame ! $ frame ! $ owned ! usize (Is usize) (uint-makes 𝓤 H A W w64) t _ (refl, t-fits) $ done !
 
     -- the loop's state: i and the first place among the first i
@@ -137,8 +143,10 @@ module _ {M : Type 1} (𝓤 : URA M) (H : Heap 𝓤) (A : Atoms 𝓤) (W : Given
 
     goes-look : (t j : ℕ) (c : Design) → t < 2 ^ 64 → j < 2 ^ 64 → ent 𝓤 (sem 𝓤 H A (T.the-row .own c (mach c ∷ []))) (Look 𝓤 H A mem run .pre (to-look t j c))
     goes-look t j c t-fits j-fits =
-        qed W (‵ (T.the-row .own c (mach c ∷ [])) ∷ []) ∵ nothing ! $ owned ! T.the-row (Is T.the-row) (LL.makes T.the-type T′.the-plain 𝓤 H A) d _ is-d $ fjoin ! $ move ! (1 ∷ 0 ∷ []) $ fjoin ! $
-        owned ! usize (Is usize) (uint-makes 𝓤 H A W w64) j _ (refl, j-fits) $ fjoin ! $ owned ! usize (Is usize) (uint-makes 𝓤 H A W w64) t _ (refl, t-fits) $ fjoin ! $ nothing ! $ join ! $ frame ! $ done !
+        qed W (‵ (T.the-row .own c (mach c ∷ [])) ∷ []) ∵ nothing ! $ owned ! T.the-row (Is T.the-row) (LL.makes T.the-type T′.the-plain 𝓤 H A) d _ is-d $
+        fjoin ! $ move ! (1 ∷ 0 ∷ []) $ fjoin ! $
+        owned ! usize (Is usize) (uint-makes 𝓤 H A W w64) j _ (refl, j-fits) $ fjoin ! $ owned ! usize (Is usize) (uint-makes 𝓤 H A W w64) t _ (refl, t-fits) $
+        fjoin ! $ nothing ! $ join ! $ frame ! $ done !
 
     -- the state after a turn
     after : (t : State) (r : ℕ) → t .0 < n → Looked (t .1 .0) (t .0 + 1) (getD ys (t .0) blank ≡ d) r → r < 2 ^ 64 → State
@@ -152,13 +160,18 @@ module _ {M : Type 1} (𝓤 : URA M) (H : Heap 𝓤) (A : Atoms 𝓤) (W : Given
       Λ = 𝓣 .Λ
 
       abbrev En : Env 𝓤 H
-      En = (word, l₀) ∷ (slice, l₁) ∷ (T′.mir, l₂) ∷ (word, l₃) ∷ (word, l₄) ∷ (T′.mir, l₅) ∷ (word, l₆) ∷ (word, l₇) ∷ (tyBool, l₈) ∷ (tyPtr, l₉) ∷ (T′.mir, l₁₀) ∷ []
+      En =
+          (word, l₀) ∷ (slice, l₁) ∷ (T′.mir, l₂) ∷ (word, l₃) ∷ (word, l₄) ∷ (T′.mir, l₅) ∷ (word, l₆) ∷ (word, l₇) ∷ (tyBool, l₈)
+          ∷ (tyPtr, l₉) ∷ (T′.mir, l₁₀) ∷ []
 
       abbrev Ctx : ℕ → ℕ → List (Item 𝓤)
       Ctx i t = ‵ (fshr-bor κ (λ p. arr-parts (shares T.the-row) n .part p ys b o)) ∷ ‵ (flft κ q)
-          ∷ ‵ (froom T′.mir l₁₀ 0) ∷ ‵ (fdies T′.mir l₁₀) ∷ ‵ (froom tyPtr l₉ 0) ∷ ‵ (fdies tyPtr l₉) ∷ ‵ (froom tyBool l₈ 0) ∷ ‵ (fdies tyBool l₈) ∷ ‵ (froom word l₇ 0) ∷ ‵ (fdies word l₇)
-          ∷ ‵ (froom word l₆ 0) ∷ ‵ (fdies word l₆) ∷ ‵ (froom T′.mir l₅ 0) ∷ ‵ (fdies T′.mir l₅) ∷ ‵ (fat fullShare word l₄ 0 (vint w64 t)) ∷ ‵ (fdies word l₄) ∷ ‵ (fat fullShare word l₃ 0 (vint w64 i)) ∷ ‵ (fdies word l₃)
-          ∷ ‵ (fat fullShare T′.mir l₂ 0 (mach d)) ∷ ‵ (fdies T′.mir l₂) ∷ ‵ (fat fullShare slice l₁ 0 s) ∷ ‵ (fdies slice l₁) ∷ ‵ (froom word l₀ 0) ∷ ‵ (fdies word l₀) ∷ ‵ Own ∷ []
+          ∷ ‵ (froom T′.mir l₁₀ 0) ∷ ‵ (fdies T′.mir l₁₀) ∷ ‵ (froom tyPtr l₉ 0) ∷ ‵ (fdies tyPtr l₉) ∷ ‵ (froom tyBool l₈ 0) ∷ ‵ (fdies tyBool l₈)
+          ∷ ‵ (froom word l₇ 0) ∷ ‵ (fdies word l₇)
+          ∷ ‵ (froom word l₆ 0) ∷ ‵ (fdies word l₆) ∷ ‵ (froom T′.mir l₅ 0) ∷ ‵ (fdies T′.mir l₅) ∷ ‵ (fat fullShare word l₄ 0 (vint w64 t))
+          ∷ ‵ (fdies word l₄) ∷ ‵ (fat fullShare word l₃ 0 (vint w64 i)) ∷ ‵ (fdies word l₃)
+          ∷ ‵ (fat fullShare T′.mir l₂ 0 (mach d)) ∷ ‵ (fdies T′.mir l₂) ∷ ‵ (fat fullShare slice l₁ 0 s) ∷ ‵ (fdies slice l₁) ∷ ‵ (froom word l₀ 0)
+          ∷ ‵ (fdies word l₀) ∷ ‵ Own ∷ []
 
       abbrev At : State → List (Item 𝓤)
       At t = Ctx (t .0) (t .1 .0)
@@ -170,39 +183,62 @@ module _ {M : Type 1} (𝓤 : URA M) (H : Heap 𝓤) (A : Atoms 𝓤) (W : Given
       unfolding afterTurn after
       turn-by (i, (t, (le, (t-fits, so)))) true e =
           let less = ltb-true i n e in
-          assigns ! (of-opd ! (load ! (from ! (fld ! refl (stop !))) (look-in ! 20 (sub ! 1 refl (whole !))))) (from ! (stop !)) (init ! 8 refl (tt, record { fits = room .0 })) $
-          assigns ! (bin ! (load ! (from ! (stop !)) (look ! 16 refl)) (load ! (from ! (stop !)) (look ! 8 refl)) tt) (from ! (stop !)) (init ! 6 refl (tt, tt)) $
+          assigns ! (of-opd ! (load ! (from ! (fld ! refl (stop !))) (look-in ! 20 (sub ! 1 refl (whole !))))) (from ! (stop !))
+          (init ! 8 refl (tt, record { fits = room .0 })) $
+          assigns ! (bin ! (load ! (from ! (stop !)) (look ! 16 refl)) (load ! (from ! (stop !)) (look ! 8 refl)) tt) (from ! (stop !))
+          (init ! 6 refl (tt, tt)) $
           rewrite ! 6 (λ (u : Bool). ‵ (fat fullShare tyBool l₈ 0 (vbool u))) e refl $ stays ! (load ! (from ! (stop !)) (look ! 6 refl)) $
-          assigns ! (bin ! (load ! (from ! (stop !)) (look ! 16 refl)) (lit ! tt) (record { fits = offset-fits i n less (room .1) })) (from ! (stop !)) (store ! 8 refl (tt, record { fits = offset-fits i n less (room .1) })) $
-          assigns ! (bin ! (load ! (from ! (fld ! refl (stop !))) (look-in ! 20 (sub ! 0 refl (whole !)))) (load ! (from ! (stop !)) (look ! 8 refl)) tt) (from ! (stop !)) (init ! 4 refl (tt, tt)) $
+          assigns ! (bin ! (load ! (from ! (stop !)) (look ! 16 refl)) (lit ! tt) (record { fits = offset-fits i n less (room .1) })) (from ! (stop !))
+          (store ! 8 refl (tt, record { fits = offset-fits i n less (room .1) })) $
+          assigns ! (bin ! (load ! (from ! (fld ! refl (stop !))) (look-in ! 20 (sub ! 0 refl (whole !)))) (load ! (from ! (stop !)) (look ! 8 refl)) tt)
+          (from ! (stop !)) (init ! 4 refl (tt, tt)) $
           rewrite ! 4 (λ (p : ℕ). ‵ (fat fullShare tyPtr l₉ 0 (vptr b p))) (sym (place-is designBytes o i)) refl $
-          looks-slice ! tt T.the-row (Is T.the-row) (shows 𝓤 H A T.the-row) (LL.vals T.the-type T′.the-laws) (LL.tells T.the-type T′.the-laws) (LL.copy T.the-type T′.the-copy 𝓤 H A W) ys b o (λ q′.
-          elem-out ! T.the-row (Is T.the-row) (shows 𝓤 H A T.the-row) (LL.vals T.the-type T′.the-laws) (LL.tells T.the-type T′.the-laws) q′ ys i blank b o less (λ is.
+          looks-slice ! tt T.the-row (Is T.the-row) (shows 𝓤 H A T.the-row) (LL.vals T.the-type T′.the-laws) (LL.tells T.the-type T′.the-laws)
+          (LL.copy T.the-type T′.the-copy 𝓤 H A W) ys b o (λ q′.
+          elem-out ! T.the-row (Is T.the-row) (shows 𝓤 H A T.the-row) (LL.vals T.the-type T′.the-laws)
+          (LL.tells T.the-type T′.the-laws) q′ ys i blank b o less (λ is.
           -- [list[i]; what it owns; the others; what shuts; the fractured borrow; _10; …; _9; …]
-          assigns ! (of-opd ! (load ! (from ! (hop ! (look ! 7 refl) (stop !))) (look-raw ! 0 refl))) (from ! (stop !)) (init ! 5 refl (LL.lawful T.the-type T′.the-laws 𝓤 H A W .typed (getD ys i blank) _ is .0)) $
+          assigns ! (of-opd ! (load ! (from ! (hop ! (look ! 7 refl) (stop !))) (look-raw ! 0 refl))) (from ! (stop !))
+          (init ! 5 refl (LL.lawful T.the-type T′.the-laws 𝓤 H A W .typed (getD ys i blank) _ is .0)) $
           elem-back ! T.the-row q′ ys i blank (mach (getD ys i blank) ∷ []) b o less $ shuts-slice ! tt T.the-row q′ ys b o $ move ! (1 ∷ 0 ∷ []) $
-          assigns ! (of-opd ! (load ! (from ! (stop !)) (look ! 2 refl))) (from ! (stop !)) (init ! 12 refl (LL.lawful T.the-type T′.the-laws 𝓤 H A W .typed (getD ys i blank) _ is .0)) $
-          assigns ! (bin ! (load ! (from ! (stop !)) (look ! 16 refl)) (lit ! tt) (record { fits = fits (i + 1) (add-one-le less) })) (from ! (stop !)) (init ! 10 refl (tt, record { fits = fits (i + 1) (add-one-le less) })) $
+          assigns ! (of-opd ! (load ! (from ! (stop !)) (look ! 2 refl))) (from ! (stop !))
+          (init ! 12 refl (LL.lawful T.the-type T′.the-laws 𝓤 H A W .typed (getD ys i blank) _ is .0)) $
+          assigns ! (bin ! (load ! (from ! (stop !)) (look ! 16 refl)) (lit ! tt) (record { fits = fits (i + 1) (add-one-le less) })) (from ! (stop !))
+          (init ! 10 refl (tt, record { fits = fits (i + 1) (add-one-le less) })) $
           -- the call
-          owned ! T.the-row (Is T.the-row) (LL.makes T.the-type T′.the-plain 𝓤 H A) (getD ys i blank) (mach (getD ys i blank) ∷ []) is $ use1 W (raw (Look 𝓤 H A mem run .pre (to-look t (i + 1) (getD ys i blank)))) (goes-look t (i + 1) (getD ys i blank) t-fits (fits (i + 1) (add-one-le less))) $
+          owned ! T.the-row (Is T.the-row) (LL.makes T.the-type T′.the-plain 𝓤 H A) (getD ys i blank) (mach (getD ys i blank) ∷ []) is $
+          use1 W (raw (Look 𝓤 H A mem run .pre (to-look t (i + 1) (getD ys i blank))))
+          (goes-look t (i + 1) (getD ys i blank) t-fits (fits (i + 1) (add-one-le less))) $
           calls-at ! (fmOf 𝓤 H (W .laws) 𝓣) (Look 𝓤 H A mem run) known (to-look t (i + 1) (getD ys i blank))
-          (and-then ! (load ! (from ! (stop !)) (look ! 15 refl)) (and-then ! (load ! (from ! (stop !)) (look ! 11 refl)) (and-then ! (load ! (from ! (stop !)) (look ! 13 refl)) (and-then ! (load ! (from ! (stop !)) (look ! 19 refl)) (no-more !))))) (λ v.
-          use1 W (later (some (λ (r : ℕ). (‵ ftrue ⊛ ‵ (usize .own r (v ∷ []))) ⊛ raw (ensured 𝓤 H A step.ended (step.clauses 𝓤 H A mem run) tt (t, (i + 1, (getD ys i blank, (d, tt)))) tt r)))) (id⊢ 𝓤 _) $ await ! tt $ pick ! (λ r.
-          split ! $ move ! (1 ∷ []) $ use1 W (raw (fact 𝓤 (Looked t (i + 1) (getD ys i blank ≡ d) r))) (look-of 𝓤 H A mem run t (i + 1) (getD ys i blank) d r) $ heard ! (Looked t (i + 1) (getD ys i blank ≡ d) r) (λ e₁. split ! $ toss ! $
+          (and-then ! (load ! (from ! (stop !)) (look ! 15 refl)) (and-then ! (load ! (from ! (stop !)) (look ! 11 refl))
+          (and-then ! (load ! (from ! (stop !)) (look ! 13 refl)) (and-then ! (load ! (from ! (stop !)) (look ! 19 refl)) (no-more !))))) (λ v.
+          use1 W (later (some (λ (r : ℕ). (‵ ftrue ⊛ ‵ (usize .own r (v ∷ [])))
+          ⊛ raw (ensured 𝓤 H A step.ended (step.clauses 𝓤 H A mem run) tt (t, (i + 1, (getD ys i blank, (d, tt)))) tt r)))) (id⊢ 𝓤 _) $
+          await ! tt $ pick ! (λ r.
+          split ! $ move ! (1 ∷ []) $ use1 W (raw (fact 𝓤 (Looked t (i + 1) (getD ys i blank ≡ d) r)))
+          (look-of 𝓤 H A mem run t (i + 1) (getD ys i blank) d r) $ heard ! (Looked t (i + 1) (getD ys i blank ≡ d) r) (λ e₁. split ! $ toss ! $
           facts ! usize (Is usize) (shows 𝓤 H A usize) r (v ∷ []) (λ is-r.
-          land ! (from ! (stop !)) (store ! 14 refl (uint-lawful 𝓤 H A W w64 .typed r _ is-r .0)) $ rewrite ! 14 (λ (u : Val). ‵ (fat fullShare word l₄ 0 u)) (ap only (is-r .0)) refl $
-          assigns-last ! (of-opd ! (load ! (from ! (stop !)) (look ! 10 refl))) (from ! (stop !)) (store ! 16 refl (tt, record { fits = fits (i + 1) (add-one-le less) })) $
+          land ! (from ! (stop !)) (store ! 14 refl (uint-lawful 𝓤 H A W w64 .typed r _ is-r .0)) $
+          rewrite ! 14 (λ (u : Val). ‵ (fat fullShare word l₄ 0 u)) (ap only (is-r .0)) refl $
+          assigns-last ! (of-opd ! (load ! (from ! (stop !)) (look ! 10 refl))) (from ! (stop !))
+          (store ! 16 refl (tt, record { fits = fits (i + 1) (add-one-le less) })) $
           forget ! 2 refl $ forget ! 4 refl $ forget ! 6 refl $ forget ! 8 refl $ forget ! 10 refl $ forget ! 12 refl $
           again ! Nearer At (i, (t, (le, (t-fits, so)))) (after (i, (t, (le, (t-fits, so)))) r less e₁ (is-r .1)) (add-one-dec n i less)))))))
       turn-by (i, (t, (le, (t-fits, so)))) false e =
-          assigns ! (of-opd ! (load ! (from ! (fld ! refl (stop !))) (look-in ! 20 (sub ! 1 refl (whole !))))) (from ! (stop !)) (init ! 8 refl (tt, record { fits = room .0 })) $
-          assigns ! (bin ! (load ! (from ! (stop !)) (look ! 16 refl)) (load ! (from ! (stop !)) (look ! 8 refl)) tt) (from ! (stop !)) (init ! 6 refl (tt, tt)) $
-          rewrite ! 6 (λ (u : Bool). ‵ (fat fullShare tyBool l₈ 0 (vbool u))) e refl $ leaves-loop ! (load ! (from ! (stop !)) (look ! 6 refl)) $ exec ! C Λ En m.t-4 (atRet En Post) $
+          assigns ! (of-opd ! (load ! (from ! (fld ! refl (stop !))) (look-in ! 20 (sub ! 1 refl (whole !))))) (from ! (stop !))
+          (init ! 8 refl (tt, record { fits = room .0 })) $
+          assigns ! (bin ! (load ! (from ! (stop !)) (look ! 16 refl)) (load ! (from ! (stop !)) (look ! 8 refl)) tt) (from ! (stop !))
+          (init ! 6 refl (tt, tt)) $
+          rewrite ! 6 (λ (u : Bool). ‵ (fat fullShare tyBool l₈ 0 (vbool u))) e refl $ leaves-loop ! (load ! (from ! (stop !)) (look ! 6 refl)) $
+          exec ! C Λ En m.t-4 (atRet En Post) $
           assigns ! (of-opd ! (load ! (from ! (stop !)) (look ! 14 refl))) (from ! (stop !)) (init ! 22 refl (tt, record { fits = t-fits })) $
-          returns ! (look ! 22 refl) $ forget ! 6 refl $ forget ! 8 refl $ forget ! 14 refl $ forget ! 16 refl $ forget ! 18 refl $ forget ! 20 refl $ forget ! 22 refl $
-          move ! (22 ∷ 23 ∷ []) $ free1 ! $ move ! (20 ∷ 21 ∷ []) $ free1 ! $ move ! (18 ∷ 19 ∷ []) $ free1 ! $ move ! (16 ∷ 17 ∷ []) $ free1 ! $ move ! (14 ∷ 15 ∷ []) $ free1 ! $ move ! (12 ∷ 13 ∷ []) $ free1 ! $ move ! (10 ∷ 11 ∷ []) $ free1 ! $
+          returns ! (look ! 22 refl) $ forget ! 6 refl $ forget ! 8 refl $ forget ! 14 refl $ forget ! 16 refl $ forget ! 18 refl $
+          forget ! 20 refl $ forget ! 22 refl $
+          move ! (22 ∷ 23 ∷ []) $ free1 ! $ move ! (20 ∷ 21 ∷ []) $ free1 ! $ move ! (18 ∷ 19 ∷ []) $ free1 ! $ move ! (16 ∷ 17 ∷ []) $ free1 ! $
+          move ! (14 ∷ 15 ∷ []) $ free1 ! $ move ! (12 ∷ 13 ∷ []) $ free1 ! $ move ! (10 ∷ 11 ∷ []) $ free1 ! $
           move ! (8 ∷ 9 ∷ []) $ free1 ! $ move ! (6 ∷ 7 ∷ []) $ free1 ! $ move ! (4 ∷ 5 ∷ []) $ free1 ! $ move ! (2 ∷ 3 ∷ []) $ free1 ! $ free0 ! $
-          keep ! (1 ∷ 2 ∷ []) $ by ! (exits t t-fits (look-all (λ j. j < n) (λ j. getD ys j blank ≡ d) i t (λ j h. lt-of-lt-of-le h le) (λ j h. lt-of-lt-of-le h (ltb-false i n e)) so))
+          keep ! (1 ∷ 2 ∷ []) $ by ! (exits t t-fits
+          (look-all (λ j. j < n) (λ j. getD ys j blank ≡ d) i t (λ j h. lt-of-lt-of-le h le) (λ j h. lt-of-lt-of-le h (ltb-false i n e)) so))
 
       turns : (t : State) → Sq W (At t) (runs C Λ En m.turn-1 (anyQ (Turned t)))
       turns t = turn-by t (ltb (t .0) n) refl
@@ -218,12 +254,17 @@ module _ {M : Type 1} (𝓤 : URA M) (H : Heap 𝓤) (A : Atoms 𝓤) (W : Given
       unfolding start
       looped =
           qed W (At 𝓣 known l₀ l₁ l₂ l₃ l₄ l₅ l₆ l₇ l₈ l₉ l₁₀ start) ∵ exec ! (𝓣 .C) (𝓣 .Λ) E m.t-3 (atRet E Post) $
-          first ! $ blocks ! $ loops ! 𝓣 Nearer Nearer-wf (At 𝓣 known l₀ l₁ l₂ l₃ l₄ l₅ l₆ l₇ l₈ l₉ l₁₀) (turns 𝓣 known l₀ l₁ l₂ l₃ l₄ l₅ l₆ l₇ l₈ l₉ l₁₀) start
+          first ! $ blocks ! $
+          loops ! 𝓣 Nearer Nearer-wf (At 𝓣 known l₀ l₁ l₂ l₃ l₄ l₅ l₆ l₇ l₈ l₉ l₁₀) (turns 𝓣 known l₀ l₁ l₂ l₃ l₄ l₅ l₆ l₇ l₈ l₉ l₁₀) start
 
       abbrev Before : List (Item 𝓤)
-      Before = ‵ (froom T′.mir l₁₀ 0) ∷ ‵ (fdies T′.mir l₁₀) ∷ ‵ (froom tyPtr l₉ 0) ∷ ‵ (fdies tyPtr l₉) ∷ ‵ (froom tyBool l₈ 0) ∷ ‵ (fdies tyBool l₈) ∷ ‵ (froom word l₇ 0) ∷ ‵ (fdies word l₇) ∷ ‵ (froom word l₆ 0) ∷ ‵ (fdies word l₆)
-          ∷ ‵ (froom T′.mir l₅ 0) ∷ ‵ (fdies T′.mir l₅) ∷ ‵ (froom word l₄ 0) ∷ ‵ (fdies word l₄) ∷ ‵ (froom word l₃ 0) ∷ ‵ (fdies word l₃) ∷ ‵ (fat fullShare T′.mir l₂ 0 (mach d)) ∷ ‵ (fdies T′.mir l₂)
-          ∷ ‵ (fat fullShare slice l₁ 0 s) ∷ ‵ (fdies slice l₁) ∷ ‵ (froom word l₀ 0) ∷ ‵ (fdies word l₀) ∷ (‵ (flft κ q) ⊛ ‵ ftrue) ∷ ‵ (owns (ShrSlice (named 0) κ T.the-row ∷ T.the-row ∷ []) a at) ∷ []
+      Before =
+          ‵ (froom T′.mir l₁₀ 0) ∷ ‵ (fdies T′.mir l₁₀) ∷ ‵ (froom tyPtr l₉ 0) ∷ ‵ (fdies tyPtr l₉) ∷ ‵ (froom tyBool l₈ 0) ∷ ‵ (fdies tyBool l₈)
+          ∷ ‵ (froom word l₇ 0) ∷ ‵ (fdies word l₇) ∷ ‵ (froom word l₆ 0) ∷ ‵ (fdies word l₆)
+          ∷ ‵ (froom T′.mir l₅ 0) ∷ ‵ (fdies T′.mir l₅) ∷ ‵ (froom word l₄ 0) ∷ ‵ (fdies word l₄) ∷ ‵ (froom word l₃ 0) ∷ ‵ (fdies word l₃)
+          ∷ ‵ (fat fullShare T′.mir l₂ 0 (mach d)) ∷ ‵ (fdies T′.mir l₂)
+          ∷ ‵ (fat fullShare slice l₁ 0 s) ∷ ‵ (fdies slice l₁) ∷ ‵ (froom word l₀ 0) ∷ ‵ (fdies word l₀) ∷ (‵ (flft κ q) ⊛ ‵ ftrue)
+          ∷ ‵ (owns (ShrSlice (named 0) κ T.the-row ∷ T.the-row ∷ []) a at) ∷ []
 
       begins : ent 𝓤 (⋆ 𝓤 H A Before) (Wp 𝓤 H (𝓣 .C) (𝓣 .Λ) E m.t-1 (atReturn 𝓤 H E Post))
       begins =
@@ -231,9 +272,11 @@ module _ {M : Type 1} (𝓤 : URA M) (H : Heap 𝓤) (A : Atoms 𝓤) (W : Given
           assigns ! (of-opd ! (lit ! tt)) (from ! (stop !)) (init ! 14 refl (tt, record { fits = lit< tt })) $
           assigns ! (of-opd ! (lit ! tt)) (from ! (stop !)) (init ! 12 refl (tt, record { fits = lit< tt })) $
           -- what the slice owns is had twice: one is kept whole for the exit, and of the other the fractured borrow
-          move ! (23 ∷ []) $ fsplit ! $ use1 W (‵ Own ⊛ ‵ Own) (shr-slice-copy 𝓤 H A W (named 0) κ T.the-row .twice x (s ∷ [])) $ split ! $ fsplit ! $ toss ! $ fsplit ! $ toss ! $
+          move ! (23 ∷ []) $ fsplit ! $ use1 W (‵ Own ⊛ ‵ Own) (shr-slice-copy 𝓤 H A W (named 0) κ T.the-row .twice x (s ∷ [])) $ split ! $ fsplit ! $
+          toss ! $ fsplit ! $ toss ! $
           -- [the fractured borrow; what the slice owns; d's; _10; …; the token]
-          move ! (25 ∷ []) $ split ! $ keep ! (2 ∷ 0 ∷ 5 ∷ 6 ∷ 7 ∷ 8 ∷ 9 ∷ 10 ∷ 11 ∷ 12 ∷ 13 ∷ 14 ∷ 15 ∷ 16 ∷ 17 ∷ 18 ∷ 19 ∷ 20 ∷ 21 ∷ 22 ∷ 23 ∷ 24 ∷ 25 ∷ 26 ∷ 3 ∷ []) $ by ! looped
+          move ! (25 ∷ []) $ split ! $
+          keep ! (2 ∷ 0 ∷ 5 ∷ 6 ∷ 7 ∷ 8 ∷ 9 ∷ 10 ∷ 11 ∷ 12 ∷ 13 ∷ 14 ∷ 15 ∷ 16 ∷ 17 ∷ 18 ∷ 19 ∷ 20 ∷ 21 ∷ 22 ∷ 23 ∷ 24 ∷ 25 ∷ 26 ∷ 3 ∷ []) $ by ! looped
 
     -- the locals are allocated and the arguments stored, for any body: so the kernel does not carry the body through each step
     abbrev shell : Body → Fn
@@ -241,31 +284,46 @@ module _ {M : Type 1} (𝓤 : URA M) (H : Heap 𝓤) (A : Atoms 𝓤) (W : Given
       lifetimes = 1;
       outlives = [];
       params = 2;
-      locals = local word valueLocal ∷ local slice valueLocal ∷ local T′.mir valueLocal ∷ local word valueLocal ∷ local word valueLocal ∷ local T′.mir valueLocal ∷ local word valueLocal ∷ local word valueLocal ∷ local tyBool valueLocal ∷ local tyPtr valueLocal ∷ local T′.mir valueLocal ∷ [];
+      locals = local word valueLocal ∷ local slice valueLocal ∷ local T′.mir valueLocal ∷ local word valueLocal ∷ local word valueLocal
+          ∷ local T′.mir valueLocal ∷ local word valueLocal ∷ local word valueLocal ∷ local tyBool valueLocal ∷ local tyPtr valueLocal
+          ∷ local T′.mir valueLocal ∷ [];
       body = body;
     }
 
     enters : (𝓣 : Tables 𝓤 H) (known : Triple 𝓤 (𝓣 .C #lookup·look) (Look 𝓤 H A mem run)) (body : Body) (Kf : Val → SProp 𝓤)
-        → ((l₀ l₁ l₂ l₃ l₄ l₅ l₆ l₇ l₈ l₉ l₁₀ : ℕ) → ent 𝓤 (⋆ 𝓤 H A (Before 𝓣 known l₀ l₁ l₂ l₃ l₄ l₅ l₆ l₇ l₈ l₉ l₁₀)) (Wp 𝓤 H (𝓣 .C) (𝓣 .Λ) (E 𝓣 known l₀ l₁ l₂ l₃ l₄ l₅ l₆ l₇ l₈ l₉ l₁₀) body (atReturn 𝓤 H (E 𝓣 known l₀ l₁ l₂ l₃ l₄ l₅ l₆ l₇ l₈ l₉ l₁₀) Kf)))
+        → ((l₀ l₁ l₂ l₃ l₄ l₅ l₆ l₇ l₈ l₉ l₁₀ : ℕ) → ent 𝓤 (⋆ 𝓤 H A (Before 𝓣 known l₀ l₁ l₂ l₃ l₄ l₅ l₆ l₇ l₈ l₉ l₁₀))
+        (Wp 𝓤 H (𝓣 .C) (𝓣 .Λ) (E 𝓣 known l₀ l₁ l₂ l₃ l₄ l₅ l₆ l₇ l₈ l₉ l₁₀) body (atReturn 𝓤 H (E 𝓣 known l₀ l₁ l₂ l₃ l₄ l₅ l₆ l₇ l₈ l₉ l₁₀) Kf)))
         → ent 𝓤 (onEntry 𝓤 H A f.signature (κ, tt) (q, tt) a at) (WpFn 𝓤 H (𝓣 .C) (𝓣 .Λ) (shell body) (s ∷ mach d ∷ []) Kf)
     enters 𝓣 known body Kf k =
-        qed W ((‵ (flft κ q) ⊛ ‵ ftrue) ∷ ‵ (owns (ShrSlice (named 0) κ T.the-row ∷ T.the-row ∷ []) a at) ∷ []) ∵ enter ! (𝓣 .C) (𝓣 .Λ) (shell body) (s ∷ mach d ∷ []) Kf $
-        alloc1 ! (λ l₀. alloc1 ! (λ l₁. alloc1 ! (λ l₂. alloc1 ! (λ l₃. alloc1 ! (λ l₄. alloc1 ! (λ l₅. alloc1 ! (λ l₆. alloc1 ! (λ l₇. alloc1 ! (λ l₈. alloc1 ! (λ l₉. alloc1 ! (λ l₁₀. alloc0 ! $ params1 ! $
-        pass1 ! (init ! 18 refl (tt, (tt, (record { fits = room .0 }, tt)))) $ pass1 ! (init ! 16 refl (LL.lawful T.the-type T′.the-laws 𝓤 H A W .typed d _ is-d .0)) $ pass0 ! $ by ! (k l₀ l₁ l₂ l₃ l₄ l₅ l₆ l₇ l₈ l₉ l₁₀))))))))))))
+        qed W ((‵ (flft κ q) ⊛ ‵ ftrue) ∷ ‵ (owns (ShrSlice (named 0) κ T.the-row ∷ T.the-row ∷ []) a at) ∷ [])
+        ∵ enter ! (𝓣 .C) (𝓣 .Λ) (shell body) (s ∷ mach d ∷ []) Kf $
+        alloc1 ! (λ l₀. alloc1 ! (λ l₁. alloc1 ! (λ l₂.
+        alloc1 ! (λ l₃. alloc1 ! (λ l₄. alloc1 ! (λ l₅. alloc1 ! (λ l₆. alloc1 ! (λ l₇. alloc1 ! (λ l₈. alloc1 ! (λ l₉. alloc1 ! (λ l₁₀. alloc0 ! $ params1 ! $
+        pass1 ! (init ! 18 refl (tt, (tt, (record { fits = room .0 }, tt)))) $
+        pass1 ! (init ! 16 refl (LL.lawful T.the-type T′.the-laws 𝓤 H A W .typed d _ is-d .0)) $ pass0 ! $
+        by ! (k l₀ l₁ l₂ l₃ l₄ l₅ l₆ l₇ l₈ l₉ l₁₀))))))))))))
 
-    walk : (𝓣 : Tables 𝓤 H) → Triple 𝓤 (𝓣 .C #lookup·look) (Look 𝓤 H A mem run) → ent 𝓤 (onEntry 𝓤 H A f.signature (κ, tt) (q, tt) a at) (WpFn 𝓤 H (𝓣 .C) (𝓣 .Λ) code.function (s ∷ mach d ∷ []) Post)
+    walk : (𝓣 : Tables 𝓤 H) → Triple 𝓤 (𝓣 .C #lookup·look) (Look 𝓤 H A mem run)
+        → ent 𝓤 (onEntry 𝓤 H A f.signature (κ, tt) (q, tt) a at) (WpFn 𝓤 H (𝓣 .C) (𝓣 .Λ) code.function (s ∷ mach d ∷ []) Post)
     walk 𝓣 known = enters 𝓣 known m.t-1 Post (begins 𝓣 known)
 
 module _ {M : Type 1} (𝓤 : URA M) (H : Heap 𝓤) (A : Atoms 𝓤) (W : Given 𝓤 H A) (mem : Memory → SProp 𝓤) (run : Routine → Fun 𝓤) where
-  first-place-walks : (𝓣 : Tables 𝓤 H) → Triple 𝓤 (𝓣 .C #lookup·look) (Look 𝓤 H A mem run) → Walks 𝓤 H A f.ended stayed (WpFn 𝓤 H (𝓣 .C) (𝓣 .Λ) code.function) (f.clauses 𝓤 H A mem run)
-  first-place-walks 𝓣 known = walked 𝓤 H A f.ended stayed (f.clauses 𝓤 H A mem run) (WpFn 𝓤 H (𝓣 .C) (𝓣 .Λ) code.function) (λ κs. (slice-vals, (LL.vals T.the-type T′.the-laws, tt)))
+  first-place-walks : (𝓣 : Tables 𝓤 H) → Triple 𝓤 (𝓣 .C #lookup·look) (Look 𝓤 H A mem run)
+      → Walks 𝓤 H A f.ended stayed (WpFn 𝓤 H (𝓣 .C) (𝓣 .Λ) code.function) (f.clauses 𝓤 H A mem run)
+  first-place-walks 𝓣 known =
+      walked 𝓤 H A f.ended stayed (f.clauses 𝓤 H A mem run) (WpFn 𝓤 H (𝓣 .C) (𝓣 .Λ) code.function) (λ κs. (slice-vals, (LL.vals T.the-type T′.the-laws, tt)))
       (λ κs. (shr-slice-tells (named 0) (κs .0) T.the-row, (LL.tells T.the-type T′.the-laws, tt)))
-      (λ κs qs bounds a g are. via 𝓤 _ (fst∗ 𝓤 _ (emp 𝓤)) (walk 𝓤 H A W mem run (κs .0) (qs .0) (a .0 .ptr .0) (a .0 .ptr .1) (a .0 .name) (a .0 .now) (a .1 .0) (are .0 .0 .1) (are .1 .0) 𝓣 known))
+      (λ κs qs bounds a g are. via 𝓤 _ (fst∗ 𝓤 _ (emp 𝓤))
+      (walk 𝓤 H A W mem run (κs .0) (qs .0) (a .0 .ptr .0) (a .0 .ptr .1) (a .0 .name) (a .0 .now) (a .1 .0) (are .0 .0 .1) (are .1 .0) 𝓣 known))
 
-first-place-meets : {M : Type 1} (𝓤 : URA M) (H : Heap 𝓤) (A : Atoms 𝓤) → Given 𝓤 H A → (mem : Memory → SProp 𝓤) (run : Routine → Fun 𝓤) (𝓣 : Tables 𝓤 H) → Triple 𝓤 (𝓣 .C #lookup·look) (Look 𝓤 H A mem run)
+first-place-meets : {M : Type 1} (𝓤 : URA M) (H : Heap 𝓤) (A : Atoms 𝓤) → Given 𝓤 H A → (mem : Memory → SProp 𝓤) (run : Routine → Fun 𝓤) (𝓣 : Tables 𝓤 H)
+    → Triple 𝓤 (𝓣 .C #lookup·look) (Look 𝓤 H A mem run)
     → Meets 𝓤 H A f.signature (WpFn 𝓤 H (𝓣 .C) (𝓣 .Λ) code.function) (f.spec 𝓤 H A mem run)
 first-place-meets 𝓤 H A W mem run 𝓣 known =
-    walk-meets 𝓤 H A f.ended stayed W (goes-none-slice 𝓤 H A W 1 (0 ∷ []) tt (plain (λ _. T.the-row)) yes, (goes-none 𝓤 H A W 1 (λ _. T.the-row) yes (λ κs x f. refl), tt)) (f.clauses 𝓤 H A mem run)
+    walk-meets 𝓤 H A f.ended stayed W (
+      goes-none-slice 𝓤 H A W 1 (0 ∷ []) tt (plain (λ _. T.the-row)) yes,
+      (goes-none 𝓤 H A W 1 (λ _. T.the-row) yes (λ κs x f. refl), tt),
+    ) (f.clauses 𝓤 H A mem run)
     (WpFn 𝓤 H (𝓣 .C) (𝓣 .Λ) code.function) (WpFn-mono 𝓤 H (W .laws) 𝓣 code.function) (first-place-walks 𝓤 H A W mem run 𝓣 known)
 
 pub first-place-spec : {M : Type 1} → stated.statement M

@@ -1,14 +1,14 @@
 -- `patterns::letter_counts` meets its contract. The invariant: the numbers passed are counted. The measure is what is left. Assumes nothing.
 use Prim.Native.Nat.{_-_, _≤_}
 use native.Mathlib.Omega.{arith}
-use Rattle.patterns.specs.Steps.{LetterCounts}
+use Rattle.patterns.specs.Steps.{LettersCounted}
 use Rattle.patterns.proofs.Laws.{counts-none, counts-le, counts-more, counts-all}
 use borrow.Author.Needs.{needs}
 use Rattle.patterns.proofs.letter_counts.Statement.{statement}
 use Rattle.patterns.proofs.letter_counts.Tie as tie
 
 abbrev Inv-loop : tie.InvT-loop
-Inv-loop list end counts₀ j₀ counts j = (j ≤ end) × LetterCounts j list counts
+Inv-loop list end counts₀ j₀ counts j = (j ≤ end) × LettersCounted j list counts
 
 abbrev μ-loop : tie.MeasureT-loop
 μ-loop list end counts₀ j₀ counts j = end - j

@@ -31,7 +31,8 @@ returns-3 c =
     let s = q .before .before .before .before .before in
     let a = s .args in
     let short = count-short (q .before .pattern .ensures .0) (a .r) (q .word-below .ensures .0 (c .if3 .taken)) in
-    judges (a .n) (a .r) (planOf (a .n) (a .n - a .g) (a .plan .columns)) (a .plan .number) 7 (q .before .before .before .before .if1 .left) (wanted-short _ _ _ short)
+    judges (a .n) (a .r) (planOf (a .n) (a .n - a .g) (a .plan .columns)) (a .plan .number) 7 (q .before .before .before .before .if1 .left)
+    (wanted-short _ _ _ short)
 
 returns-4 : tie.Need-returns-4
 returns-4 c =

@@ -3,7 +3,7 @@ use mathlib.Core.Path.{_≡_, ap}
 use Prim.Native.Nat.{ℕ, _+_, _*_, _≤_, _-_}
 use native.Mathlib.Omega.{arith}
 use lib.ListN.{length}
-use Rattle.printed_lines.specs.Text.{Adds, next, columnsText}
+use Rattle.printed_lines.specs.Text.{TextAdded, next, columnsText}
 use Rattle.printed_lines.specs.Adding.{columns-none, adds-is, next-short, column-turn}
 use borrow.Author.Needs.{needs}
 use Rattle.printed_lines.proofs.add_columns.Statement.{statement}
@@ -11,7 +11,7 @@ use Rattle.printed_lines.proofs.add_columns.Tie as tie
 
 abbrev Inv-loop : tie.InvT-loop
 Inv-loop n at out₀ columns f₀ end₀ out f end =
-    (n ≤ 16) × (f ≤ n) × (end ≤ at + 4 * f) × (at + 4 * n + 17 ≤ length out₀) × (16 ≡ length columns) × Adds out₀ out at (columnsText f columns) end
+    (n ≤ 16) × (f ≤ n) × (end ≤ at + 4 * f) × (at + 4 * n + 17 ≤ length out₀) × (16 ≡ length columns) × TextAdded out₀ out at (columnsText f columns) end
 
 abbrev μ-loop : tie.MeasureT-loop
 μ-loop n at out₀ columns f₀ end₀ out f end = n - f

@@ -6,7 +6,7 @@ use native.Mathlib.Omega.{arith}
 use lib.ListN.{length}
 use Rattle.regular.specs.Book.{each}
 use Rattle.regular.specs.Pattern.{ofLength}
-use Rattle.printed_lines.specs.Text.{Adds, next, countsText}
+use Rattle.printed_lines.specs.Text.{TextAdded, next, countsText}
 use Rattle.printed_lines.specs.Adding.{counts-none, adds-is, next-short, count-turn}
 use borrow.Author.Needs.{needs}
 use Rattle.printed_lines.proofs.add_counts.Statement.{statement}
@@ -15,7 +15,7 @@ use Rattle.printed_lines.proofs.add_counts.Tie as tie
 abbrev Inv-loop : tie.InvT-loop
 Inv-loop n at out₀ counts l₀ end₀ out l end =
     (n ≤ 16) × ((l ≤ n) ⊎ (l ≡ 2)) × (2 ≤ l) × (end ≤ at + 6 * (l - 2)) × (at + 6 * (n - 2) + 15 ≤ length out₀) × (16 ≡ length counts)
-    × Adds out₀ out at (countsText l counts) end
+    × TextAdded out₀ out at (countsText l counts) end
 
 abbrev μ-loop : tie.MeasureT-loop
 μ-loop n at out₀ counts l₀ end₀ out l end = n - l

@@ -4,13 +4,13 @@ use Prim.Native.Nat.{_+_, _≤_, _-_}
 use native.Mathlib.Omega.{arith}
 use borrow.Author.Needs.{needs}
 use lib.ListN.{length, take}
-use Rattle.printed_lines.specs.Text.{Adds}
+use Rattle.printed_lines.specs.Text.{TextAdded}
 use Rattle.printed_lines.specs.Adding.{adds-none, text-turn, text-all}
 use Rattle.printed_lines.proofs.add_text.Statement.{statement}
 use Rattle.printed_lines.proofs.add_text.Tie as tie
 
 abbrev Inv-loop : tie.InvT-loop
-Inv-loop text at out₀ i₀ end₀ out i end = (i ≤ length text) × (end ≡ at + i) × (at + length text ≤ length out) × Adds out₀ out at (take i text) end
+Inv-loop text at out₀ i₀ end₀ out i end = (i ≤ length text) × (end ≡ at + i) × (at + length text ≤ length out) × TextAdded out₀ out at (take i text) end
 
 abbrev μ-loop : tie.MeasureT-loop
 μ-loop text at out₀ i₀ end₀ out i end = length text - i

@@ -140,7 +140,8 @@ loop-again c =
     let from = p .before .plan-start in
     let to = p .plan-start2 in (
       turn-more (a .n) (a .g) (a .plans .now) (q .0) (a .forms .now) (a .witnesses .now) (q .1) (q .2) (l .i) (l .forms) (l .witnesses) (l .inv .0) (less w)
-          (from .result) (to .result) (from .ensures) (to .ensures) (f .form-into .last .1 .1 .1 .0) (f .form-into .last .1 .1 .1 .1 .0) (f .form-into .ensures),
+          (from .result) (to .result) (from .ensures) (to .ensures) (f .form-into .last .1 .1 .1 .0) (f .form-into .last .1 .1 .1 .1 .0)
+          (f .form-into .ensures),
       omega (arith, w .loop-test .taken),
     )
 

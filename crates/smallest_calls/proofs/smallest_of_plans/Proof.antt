@@ -28,7 +28,8 @@ returns c =
     let w = c .before .lending2 in
     let d = length (a .plans .now) in
     let low = others-lowest (a .n) (a .g) (a .plans .now) d (a .forms .now) (k .result) (v .result) (k .ensures) (v .ensures) in
-    let all = lending-lowest (others (a .n) (a .g) (a .plans .now) d (a .forms .now)) (v .result) d (a .witnesses .now) (w .result) low (others-most (a .n) (a .g) (a .plans .now) d (a .forms .now)) (w .ensures) in
+    let all = lending-lowest (others (a .n) (a .g) (a .plans .now) d (a .forms .now)) (v .result) d (a .witnesses .now) (w .result) low
+    (others-most (a .n) (a .g) (a .plans .now) d (a .forms .now)) (w .ensures) in
     each-refused (a .n) (a .g) (a .plans .now) (a .forms .now) (a .witnesses .now) (w .result) (c .if1 .taken) all
 
 form-each-requires : tie.Need-form-each-requires
@@ -39,7 +40,8 @@ form-each-requires c κs =
     let w = c .before .before .before .lending2 in
     let d = length (a .plans .now) in
     let low = others-lowest (a .n) (a .g) (a .plans .now) d (a .forms .now) (k .result) (v .result) (k .ensures) (v .ensures) in
-    let all = lending-lowest (others (a .n) (a .g) (a .plans .now) d (a .forms .now)) (v .result) d (a .witnesses .now) (w .result) low (others-most (a .n) (a .g) (a .plans .now) d (a .forms .now)) (w .ensures) in
+    let all = lending-lowest (others (a .n) (a .g) (a .plans .now) d (a .forms .now)) (v .result) d (a .witnesses .now) (w .result) low
+    (others-most (a .n) (a .g) (a .plans .now) d (a .forms .now)) (w .ensures) in
     let e = c .before .before .if1 .left in
     let y = lending-accepted (v .result) d (length (a .witnesses .now)) (w .result) (w .ensures) e in
     let x = lending-accepted (k .result) d (length (a .forms .now)) (v .result) (v .ensures) (y .0) in
@@ -60,13 +62,15 @@ returns-2 c =
     let w = c .before .before .before .before .before .before .before .before .lending2 in
     let d = length (a .plans .now) in
     let low = others-lowest (a .n) (a .g) (a .plans .now) d (a .forms .now) (k .result) (v .result) (k .ensures) (v .ensures) in
-    let all = lending-lowest (others (a .n) (a .g) (a .plans .now) d (a .forms .now)) (v .result) d (a .witnesses .now) (w .result) low (others-most (a .n) (a .g) (a .plans .now) d (a .forms .now)) (w .ensures) in
+    let all = lending-lowest (others (a .n) (a .g) (a .plans .now) d (a .forms .now)) (v .result) d (a .witnesses .now) (w .result) low
+    (others-most (a .n) (a .g) (a .plans .now) d (a .forms .now)) (w .ensures) in
     let e = c .before .before .before .before .before .before .before .if1 .left in
     let y = lending-accepted (v .result) d (length (a .witnesses .now)) (w .result) (w .ensures) e in
     let x = lending-accepted (k .result) d (length (a .forms .now)) (v .result) (v .ensures) (y .0) in
     let z = subst (Lowest (plansFaults (a .n) (a .g) (a .plans .now))) (x .0) (three-plans (a .n) (a .g) (a .plans .now) (k .result) (k .ensures)) in
     let f = c .before .before .before .before .form-each in
-    each-reduced (a .n) (a .g) (a .plans .now) (a .forms .now) (f .last .1 .1 .1 .0) (a .witnesses .now) (f .last .1 .1 .1 .1 .0) (plans-some (a .n) (a .g) (a .plans .now) z)
+    each-reduced (a .n) (a .g) (a .plans .now) (a .forms .now) (f .last .1 .1 .1 .0) (a .witnesses .now) (f .last .1 .1 .1 .1 .0)
+    (plans-some (a .n) (a .g) (a .plans .now) z)
     (subst (Lowest (either (others (a .n) (a .g) (a .plans .now) d (a .forms .now)) (LentFault d (a .witnesses .now)))) e all) (f .ensures)
 
 pub smallest-of-plans-spec : {M : Type 1} → statement M

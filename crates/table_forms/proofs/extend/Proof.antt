@@ -5,13 +5,13 @@ use Prim.Native.Nat.{ℕ, _+_, _*_, _-_, _≤_}
 use native.Mathlib.Omega.{arith}
 use borrow.Author.Needs.{needs}
 use lib.ListN.{length, getD}
-use Rattle.table_forms.specs.Walk.{Extended}
+use Rattle.table_forms.specs.Walk.{LevelsExtended}
 use Rattle.table_forms.specs.Turns.{extend-none, extend-more}
 use Rattle.table_forms.proofs.extend.Statement.{statement}
 use Rattle.table_forms.proofs.extend.Tie as tie
 
 abbrev Inv-loop : tie.InvT-loop
-Inv-loop t f half v₀ i₀ v i = (i ≤ length t) × Extended t v₀ v f half i
+Inv-loop t f half v₀ i₀ v i = (i ≤ length t) × LevelsExtended t v₀ v f half i
 
 abbrev μ-loop : tie.MeasureT-loop
 μ-loop t f half v₀ i₀ v i = length t - i
@@ -73,7 +73,7 @@ returns c =
     let at = c .before in
     let s = at .before .before .args in
     let e : at .loop .i ≡ length (s .t .now) = omega arith in
-    subst (λ (k : ℕ). Extended (s .t .now) (s .coords) (at .loop .v) (s .f) (s .half) k) e (at .loop .inv .1)
+    subst (λ (k : ℕ). LevelsExtended (s .t .now) (s .coords) (at .loop .v) (s .f) (s .half) k) e (at .loop .inv .1)
 
 pub extend-spec : {M : Type 1} → statement M
 extend-spec =

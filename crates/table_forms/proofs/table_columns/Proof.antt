@@ -6,7 +6,7 @@ use mathlib.Core.Path.{subst}
 use lib.ListN.{length}
 use Rattle.regular.specs.Runs.{Table}
 use Rattle.standard.specs.Finding.{not-found}
-use Rattle.table_forms.specs.Walk.{Walk, AllLast}
+use Rattle.table_forms.specs.Walk.{TableWalk, AllLast}
 use Rattle.table_forms.specs.Verdict.{verdict-regular, verdict-repeat}
 use Rattle.table_forms.specs.Turns.{count-small}
 use Rattle.table_forms.specs.Steps.{walk-small, walk-below}
@@ -18,7 +18,7 @@ module _ (c : tie.Else1) where
   abbrev start : tie.Start
   start = c .before .before .before .before
 
-  walked : Walk (start .args .m) (start .args .t .now) (start .args .n) (c .before .before .walk .result)
+  walked : TableWalk (start .args .m) (start .args .t .now) (start .args .n) (c .before .before .walk .result)
   walked = c .before .before .walk .ensures .walk (not-false _ (c .if1 .left))
 
 -- from the test of the levels back to it

@@ -8,12 +8,12 @@ use borrow.Author.Needs.{needs}
 use lib.ListN.{length}
 use Rattle.table_forms.specs.Turns.{count-small}
 use Rattle.table_forms.specs.Steps.{ended, went}
-use Rattle.table_forms.specs.Walk.{Walk}
+use Rattle.table_forms.specs.Walk.{TableWalk}
 use Rattle.table_forms.proofs.walk.Statement.{statement}
 use Rattle.table_forms.proofs.walk.Tie as tie
 
 abbrev Inv-loop : tie.InvT-loop
-Inv-loop n m t w₀ f₀ w f = (f ≤ n) × ((w .ok ≡ true) × Walk m t f w)
+Inv-loop n m t w₀ f₀ w f = (f ≤ n) × ((w .ok ≡ true) × TableWalk m t f w)
 
 abbrev μ-loop : tie.MeasureT-loop
 μ-loop n m t w₀ f₀ w f = n - f
@@ -56,7 +56,7 @@ returns-2 c =
     let s = at .before .before .before in
     let e : at .loop .f ≡ s .args .n = omega arith in
     went (s .args .m) (s .args .t .now) (s .args .n) (at .loop .w) (at .loop .inv .1 .0)
-    (subst (λ (f : ℕ). Walk (s .args .m) (s .args .t .now) f (at .loop .w)) e (at .loop .inv .1 .1))
+    (subst (λ (f : ℕ). TableWalk (s .args .m) (s .args .t .now) f (at .loop .w)) e (at .loop .inv .1 .1))
 
 pub walk-spec : {M : Type 1} → statement M
 walk-spec =
