@@ -1,5 +1,5 @@
-// Plans in any of their forms are admitted here: refused by the lowest number that applies, or brought into standard columns and the run that they
-// start from. Public for the calls on plans, which all begin so.
+// Plans in any of their forms are admitted here: refused by the lowest number that applies, or brought into standard columns and the run that they start
+// from.
 ghost use mathlib.Core.Path.{_≡_};
 ghost use mathlib.Core.Bool.{true, false};
 ghost use Prim.Native.Nat.{ℕ, _≤_, _<_};
@@ -35,7 +35,7 @@ fn size_number(n: usize, g: usize) -> u8
     0
 }
 
-// 1 to 3 if the sizes or the wanted resolution are out of bounds, else 0. Public for the calls with a wanted resolution.
+// 1 to 3 if the sizes or the wanted resolution are out of bounds, else 0.
 pub fn bounds_number(n: usize, g: usize, r: usize) -> u8
     ensures { λ k. ⌜ Lowest (sizeFaults n g r) k × (k ≡ 0 → Sized n g r) × (k ≤ 3) ⌝ }
 {
@@ -52,7 +52,7 @@ pub fn bounds_number(n: usize, g: usize, r: usize) -> u8
     0
 }
 
-// The smaller of two refusals' numbers, 0 being none. Public for the calls on several plans.
+// The smaller of two refusals' numbers, 0 being none.
 pub fn lower_of(a: u8, b: u8) -> u8
     ensures { λ r. ⌜ Lower a b r ⌝ }
 {
@@ -214,7 +214,7 @@ pub fn admit_design(n: usize, g: usize, design: Design) -> Admitted
     admit_array(n, m, columns)
 }
 
-// The bytes of a list as an array, zeros after them. Public for the call that lists runs, the book and the check of a witness.
+// The bytes of a list as an array, zeros after them.
 pub fn array_of(list: &[u8]) -> [u8; FACTORS]
     requires { ⌜ length (now list) ≤ 16 ⌝ }
     ensures { λ r. ⌜ ((f : ℕ) → getD r f 0 ≡ getD (now (list .entry)) f 0) ⌝ }

@@ -1,4 +1,4 @@
-// Digits of runs, words and columns, and bytes and numbers as indices. Public for the crates of plans and the program.
+// Digits of runs, words and columns, and bytes and numbers as indices.
 ghost use mathlib.Core.Path.{_≡_};
 ghost use Prim.Native.Nat.{_^_, _<_, _≤_};
 ghost use lib.Count.{ones};
@@ -11,7 +11,7 @@ pub fn parity(j: u16, c: u16) -> u16
     (u16::count_ones(j & c) & 1) as u16
 }
 
-// Bit f of x. Called by the forms of a plan, the renaming of runs, the masks of the comparison and the check of a witness.
+// Bit f of x.
 pub fn level(x: u16, f: usize) -> u16
     requires { ⌜ f < 16 ⌝ }
     ensures { λ r. ⌜ (r ≡ bit f x) × (r < 2) ⌝ }
@@ -40,7 +40,7 @@ pub fn as_index(column: u8) -> usize
     column as usize
 }
 
-// 2^k. Called by the admission of plans, their measures and forms, the searches and the check of a witness.
+// 2^k.
 pub fn power(k: usize) -> usize
     requires { ⌜ k ≤ 16 ⌝ }
     ensures { λ r. ⌜ (r ≡ 2 ^ k) × (r ≤ 65536) ⌝ }

@@ -1,4 +1,4 @@
 pub mod Tables
 pub mod TableLaws
 pub mod Basis
-pub mod ColumnWalk
+pub mod Walk

@@ -13,7 +13,6 @@ use regular::NUMBERS;
 use regular::Standardized;
 
 // Twice as many sums of columns, by the column c: place half + k holds the sum at place k with c, and places finds it again.
-// Called by the order of basic factors.
 pub fn double(c: u8, half: usize, sums: &mut [u8; NUMBERS], places: &mut [u8; NUMBERS])
     requires { ⌜ (half ≤ 64) × (c < 128) × (length (now sums) ≡ 128) × (length (now places) ≡ 128) × ((k : ℕ) → k < half → getD (now sums) k 0 < 128) ⌝ }
     ensures { λ _. ⌜ SumsGrown c half half (now (sums .entry)) (now (places .entry)) (now (sums .exit)) (now (places .exit)) ⌝ }

@@ -40,7 +40,7 @@ fn basics_in(basics: &[u16; FACTORS], m: usize, c: u16) -> u16
     t
 }
 
-// The reduced words of the plan of standard columns, by rising last letter, zeros after them. Called by the calls on words and patterns.
+// The reduced words of the plan of standard columns, by rising last letter, zeros after them.
 pub fn generators(n: usize, columns: [u8; FACTORS]) -> [u16; FACTORS]
     requires { ⌜ n ≤ 16 ⌝ }
     ensures { λ r. ⌜ WordTable n columns r ⌝ }

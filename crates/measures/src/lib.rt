@@ -15,8 +15,7 @@ use regular::Design;
 use regular::FACTORS;
 use regular::ResolutionAnswer;
 
-// The pattern of standard columns: the count of length l at place l - 1. Public for the calls on aberration, comparison, several plans and the book,
-// which admit their plans first.
+// The pattern of standard columns: the count of length l at place l - 1.
 pub fn pattern(n: usize, g: usize, columns: [u8; FACTORS]) -> [u16; FACTORS]
     requires { ⌜ Ready n g columns ⌝ }
     ensures { λ r. ⌜ Pattern n (planOf n (n - g) columns) r × ((i : ℕ) → n ≤ i → getD r i 0 ≡ 0) ⌝ }

@@ -73,7 +73,7 @@ fn from_one(n: usize, counts: [u16; 17]) -> [u16; FACTORS]
     p
 }
 
-// The pattern of a plan from generators of its words: the count of length l at place l - 1. Called by the calls on patterns.
+// The pattern of a plan from generators of its words: the count of length l at place l - 1.
 pub fn pattern_of(n: usize, g: usize, words: [u16; FACTORS]) -> [u16; FACTORS]
     requires { ⌜ (n ≤ 16) × (g ≤ 11) ⌝ }
     ensures { λ r. ⌜ PatternModel n g words r ⌝ }

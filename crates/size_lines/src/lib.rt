@@ -1,4 +1,4 @@
-// The size that a line gives: three numbers of one or two digits, a space between. Public for what is printed for a line.
+// The size that a line gives: three numbers of one or two digits, a space between.
 ghost use mathlib.Core.Path.{_≡_};
 ghost use mathlib.Core.Bool.{false};
 ghost use Prim.Native.Nat.{_≤_};

@@ -1,4 +1,4 @@
-pub mod TableWalk
+pub mod Walk
 pub mod Turns
 pub mod Steps
 pub mod Verdict
