@@ -1,5 +1,5 @@
-//! The specifications and proofs beside each other: every definition and law is used or stated on a page, and every name that a file brings in stands
-//! in it.
+//! The specifications and proofs beside each other: every definition and law is used or stated on a page, every name that a file brings in stands in
+//! it, no two files define one public name, and no line is too wide to read.
 
 use std::collections::{BTreeMap, BTreeSet};
 use std::path::{Path, PathBuf};
@@ -130,4 +130,39 @@ fn every_name_that_a_file_brings_in_stands_in_it() {
     }
     assert!(idle.is_empty(), "brought in for nothing: {idle:#?}");
     assert!(seen > 9_000, "only {seen} names brought in");
+}
+
+/// The name of a public definition (not of a law), if the line begins one.
+fn defined(line: &str) -> Option<&str> {
+    let line = line.trim_start();
+    let kinds = ["pub record ", "pub data ", "abbrev pub ", "unfoldable pub "];
+    kinds.iter().find_map(|kind| line.strip_prefix(kind)).and_then(|rest| rest.split(' ').next())
+}
+
+#[test]
+fn no_two_files_define_one_public_name() {
+    let mut files: BTreeMap<String, BTreeSet<PathBuf>> = BTreeMap::new();
+    for path in sources(&["antt"]).into_iter().filter(|path| path.to_string_lossy().contains("/specs/")) {
+        for name in read(&path).lines().filter_map(defined) {
+            files.entry(name.to_string()).or_default().insert(path.clone());
+        }
+    }
+    let twice: Vec<_> = files.iter().filter(|(_, places)| places.len() > 1).collect();
+    assert!(twice.is_empty(), "one name in two files: {twice:#?}");
+    assert!(files.len() > 500, "only {} definitions", files.len());
+}
+
+#[test]
+fn lines_of_specifications_proofs_and_code_are_under_160_characters() {
+    let mut wide = Vec::new();
+    for path in sources(&["antt", "rt"]) {
+        let text = read(&path);
+        wide.extend(
+            text.lines()
+                .enumerate()
+                .filter(|(_, line)| line.chars().count() >= 160)
+                .map(|(at, _)| format!("{}:{}", path.display(), at + 1)),
+        );
+    }
+    assert!(wide.is_empty(), "160 characters or more: {wide:#?}");
 }
