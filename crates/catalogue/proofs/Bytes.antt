@@ -20,17 +20,17 @@ use Rattle.plan_layout.specs.Put.{PlanPut}
 use Rattle.catalogue.specs.Turns.{NextFound, Stops, FillingBytes}
 use Rattle.catalogue.proofs.Turns.{with-entry, with-same, with-other, progress-none, progress-more, stopped}
 
-pub filling-none : (n g r : ℕ) (v c : List ℕ) (trail : WalkState) → StateOf 0 [] trail → FillingBytes n g r v v 0 c trail
-filling-none n g r v c trail h = record {
+pub filling-none : (n g r : ℕ) (v c : List ℕ) (state : WalkState) → StateOf 0 [] state → FillingBytes n g r v v 0 c state
+filling-none n g r v c state h = record {
   all = λ _. [];
-  progress = progress-none n g r (λ _. []) c trail h;
+  progress = progress-none n g r (λ _. []) c state h;
   room = omega (arith, start-first n);
   size = refl;
   entries = λ j h. absurd (omega arith);
   rest = refl;
 }
 
-module _ (n g r : ℕ) (v w : List ℕ) (i : ℕ) (c : List ℕ) (trail : WalkState) (x : FillingBytes n g r v w i c trail) (places : ℕ)
+module _ (n g r : ℕ) (v w : List ℕ) (i : ℕ) (c : List ℕ) (state : WalkState) (x : FillingBytes n g r v w i c state) (places : ℕ)
     (e : places ≡ planCount n (length v)) where
   -- there is room for the next entry
   pub filling-room : (d : List ℕ) (next : WalkState) → NextFound n g r i (ltb i places) c d next → HasPlan n w i
@@ -48,7 +48,7 @@ module _ (n g r : ℕ) (v w : List ℕ) (i : ℕ) (c : List ℕ) (trail : WalkSt
       → FillingBytes n g r v w' (i + 1) d next
   filling-more d w' next t put = record {
     all = with-entry (x .all) i d;
-    progress = progress-more n g r i (x .all) (ltb i places) c d trail next (x .progress) t;
+    progress = progress-more n g r i (x .all) (ltb i places) c d state next (x .progress) t;
     room = subst (λ (k : ℕ). planStart n k ≤ length v) (sym (add-one i)) (omega (arith, filling-room d next t, x .size));
     size = put .size ∙ x .size;
     entries = λ j h. by-cases (ℕ-discrete j i)
@@ -61,7 +61,7 @@ module _ (n g r : ℕ) (v w : List ℕ) (i : ℕ) (c : List ℕ) (trail : WalkSt
 
   pub filling-stops : (number : ℕ) → Stops n g r i (ltb i places) c number → ListsBytes n g r v w number i
   filling-stops number s = record {
-    catalogues = stopped n g r (λ k. planStart n k ≤ length v) (λ a b h l. omega (arith, l, start-order n b a h)) i (x .all) c trail
+    catalogues = stopped n g r (λ k. planStart n k ≤ length v) (λ a b h l. omega (arith, l, start-order n b a h)) i (x .all) c state
         (x .progress) (x .room) (planAt n w) (x .entries) number (ltb i places)
         (λ z q l. omega (arith, e, ltb-false i places q, held-count n (length v) i (z .size .some) l)) s;
     rest = x .rest;

@@ -45,7 +45,7 @@ module _ (n g r i len : ℕ) (c : Stop) where
 
   -- what a turn that finds the record d answers
   abbrev found-answer : Design → WalkState → NextStop
-  found-answer d w = record { found = true; stop = record { design = d; trail = w }; answer = record { number = 0; count = i } }
+  found-answer d w = record { found = true; stop = record { design = d; state = w }; answer = record { number = 0; count = i } }
 
   pub stepped-goes : (found : Bool) (number : ℕ) (d : List ℕ) (w : WalkState) (made : Design) → made ≡ designOf n (n - g) d
       → Turned n g r i (ltb i len) (c .design .columns) found number d w → found ≡ true → StepAnswers n g r i len c (found-answer made w)
@@ -57,10 +57,10 @@ module _ (n g r i len : ℕ) (c : Stop) where
   })
 
 -- the loop
-pub listing-none : (n g r : ℕ) (ys : List Design) (c : Stop) → StateOf 0 [] (c .trail) → FillingRecords n g r ys ys 0 c
+pub listing-none : (n g r : ℕ) (ys : List Design) (c : Stop) → StateOf 0 [] (c .state) → FillingRecords n g r ys ys 0 c
 listing-none n g r ys c h = record {
   all = λ _. [];
-  progress = progress-none n g r (λ _. []) (c .design .columns) (c .trail) h;
+  progress = progress-none n g r (λ _. []) (c .design .columns) (c .state) h;
   room = omega arith;
   size = refl;
   entries = λ j h. absurd (omega arith);
@@ -82,7 +82,7 @@ module _ (n g r : ℕ) (ys zs : List Design) (i : ℕ) (c : Stop) (x : FillingRe
       let old : (j : ℕ) → (j ≡ i → ⊥) → getD zs' j blank ≡ getD zs j blank = λ j ne. getD-set-other zs i j d blank ne in
       record {
         all = with-entry (x .all) i (d .columns);
-        progress = progress-more n g r i (x .all) (ltb i (length ys)) (c .design .columns) (d .columns) (c .trail) (s .stop .trail) (x .progress) (t .goes e);
+        progress = progress-more n g r i (x .all) (ltb i (length ys)) (c .design .columns) (d .columns) (c .state) (s .stop .state) (x .progress) (t .goes e);
         room = omega arith;
         size = length-set zs i d ∙ x .size;
         entries = λ j l. by-cases (ℕ-discrete j i)
@@ -97,7 +97,7 @@ module _ (n g r : ℕ) (ys zs : List Design) (i : ℕ) (c : Stop) (x : FillingRe
 
   pub listing-stops : s .found ≡ false → ListsDesigns n g r ys zs (s .answer .number) (s .answer .count)
   listing-stops e = subst (λ (k : ℕ). ListsDesigns n g r ys zs (s .answer .number) k) (sym (t .count)) (record {
-    catalogues = stopped n g r (λ k. k ≤ length ys) (λ a b h l. omega arith) i (x .all) (c .design .columns) (c .trail) (x .progress) (x .room)
+    catalogues = stopped n g r (λ k. k ≤ length ys) (λ a b h l. omega arith) i (x .all) (c .design .columns) (c .state) (x .progress) (x .room)
         (λ j. getD zs j blank .columns)
         (λ j h f l. ap (λ (y : List ℕ). getD y f 0) (x .entries j h)) (s .answer .number) (ltb i (length ys))
         (λ _ q l. omega (arith, ltb-false i (length ys) q)) (t .stops e);

@@ -77,8 +77,8 @@ module _ (n m r i : ℕ) (all : ℕ → List ℕ) (d : List ℕ) (b : Begun n m 
       (λ ne. subst (λ (v : ℕ). FirstEntry n m r v (with-entry all i d j)) (sym (edges j (omega arith)))
       (subst (λ (x : List ℕ). FirstEntry n m r (edge n all j) x) (sym (with-other all i d j ne)) (b j (omega arith))))
 
-pub progress-none : (n g r : ℕ) (all : ℕ → List ℕ) (c : List ℕ) (trail : WalkState) → StateOf 0 [] trail → EntriesSoFar n g r 0 all c trail
-progress-none n g r all c trail h = record {
+pub progress-none : (n g r : ℕ) (all : ℕ → List ℕ) (c : List ℕ) (state : WalkState) → StateOf 0 [] state → EntriesSoFar n g r 0 all c state
+progress-none n g r all c state h = record {
   begun = λ j h. absurd (omega arith);
   last = refl;
   going = record { sized = λ e. absurd (clash e refl); held = λ e. absurd (clash e refl); start = λ _. h };
@@ -105,8 +105,8 @@ catalogue-equal n m r count a b e k = record {
 }
 
 -- where the loop stops: the answer, of which `room` and the entries in the list are the list's
-module _ (n g r : ℕ) (room : ℕ → Type 0) (down : (a b : ℕ) → b ≤ a → room a → room b) (i : ℕ) (all : ℕ → List ℕ) (c : List ℕ) (trail : WalkState)
-    (p : EntriesSoFar n g r i all c trail) (here : room i)
+module _ (n g r : ℕ) (room : ℕ → Type 0) (down : (a b : ℕ) → b ≤ a → room a → room b) (i : ℕ) (all : ℕ → List ℕ) (c : List ℕ) (state : WalkState)
+    (p : EntriesSoFar n g r i all c state) (here : room i)
     (entry : ℕ → List ℕ) (same : (j : ℕ) → j < i → Equal n (all j) (entry j)) where
   stop-refused : (k : ℕ) → 0 < k → k ≤ 3 → Lowest (sizeFaults n g r) k → Catalogues n g r room entry k i
   stop-refused k a b l = record {

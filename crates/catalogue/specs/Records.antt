@@ -17,7 +17,7 @@ pub record Head (n m : ℕ) (d : Design) : Type 0 where
   pub basics : d .basics ≡ m
 
 pub record StepAnswers (n g r i len : ℕ) (c : Stop) (s : NextStop) : Type 0 where
-  pub goes : s .found ≡ true → NextFound n g r i (ltb i len) (c .design .columns) (s .stop .design .columns) (s .stop .trail)
+  pub goes : s .found ≡ true → NextFound n g r i (ltb i len) (c .design .columns) (s .stop .design .columns) (s .stop .state)
   pub head : s .found ≡ true → Head n (n - g) (s .stop .design)
   pub stops : s .found ≡ false → Stops n g r i (ltb i len) (c .design .columns) (s .answer .number)
   pub count : s .answer .count ≡ i
@@ -25,7 +25,7 @@ pub record StepAnswers (n g r i len : ℕ) (c : Stop) (s : NextStop) : Type 0 wh
 -- the list zs, filled up to i, was ys
 pub record FillingRecords (n g r : ℕ) (ys zs : List Design) (i : ℕ) (c : Stop) : Type 0 where
   pub all : ℕ → List ℕ
-  pub progress : EntriesSoFar n g r i all (c .design .columns) (c .trail)
+  pub progress : EntriesSoFar n g r i all (c .design .columns) (c .state)
   pub room : i ≤ length ys
   pub size : length zs ≡ length ys
   pub entries : (j : ℕ) → j < i → all j ≡ getD zs j blank .columns

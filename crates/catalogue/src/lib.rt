@@ -17,12 +17,12 @@ use regular::CatalogueAnswer;
 use regular::Design;
 use regular::FACTORS;
 
-// What a turn finds: the next entry's columns and trail, or the answer's number.
+// What a turn finds: the next entry's columns and state, or the answer's number.
 struct Turn {
     found: bool,
     number: u8,
     columns: [u8; FACTORS],
-    trail: WalkState,
+    state: WalkState,
 }
 
 // The entry after c, the i-th, or the first if i is 0, where there is room for one more.
@@ -33,10 +33,10 @@ fn advance(
     i: usize,
     room: bool,
     c: [u8; FACTORS],
-    trail: WalkState,
+    state: WalkState,
 ) -> Turn
-    requires { ⌜ WalkAt n g r i c trail ⌝ }
-    ensures { λ res. ⌜ Turned n g r i room c (res .found) (res .number) (res .columns) (res .trail) ⌝ }
+    requires { ⌜ WalkAt n g r i c state ⌝ }
+    ensures { λ res. ⌜ Turned n g r i room c (res .found) (res .number) (res .columns) (res .state) ⌝ }
 {
     let number = bounds_number(n, g, r);
     if number != 0 {
@@ -44,17 +44,17 @@ fn advance(
             found: false,
             number,
             columns: c,
-            trail,
+            state,
         };
     }
-    let e = next_entry(n, n - g, r, 0 < i, c, trail);
+    let e = next_entry(n, n - g, r, 0 < i, c, state);
     let found = e.found;
     if !found {
         return Turn {
             found: false,
             number: 0,
             columns: c,
-            trail,
+            state,
         };
     }
     if !room {
@@ -62,16 +62,16 @@ fn advance(
             found: false,
             number: 9,
             columns: c,
-            trail,
+            state,
         };
     }
     let columns = e.columns;
-    let next = e.trail;
+    let next = e.state;
     Turn {
         found: true,
         number: 0,
         columns,
-        trail: next,
+        state: next,
     }
 }
 
@@ -81,10 +81,10 @@ pub fn list_catalogue(n: usize, g: usize, r: usize, out: &mut [u8]) -> Catalogue
 {
     let places = plan_count(n, out.len());
     let mut c = [0u8; FACTORS];
-    let mut trail = walk_start();
+    let mut state = walk_start();
     let mut count: usize = 0;
     loop {
-        let s = advance(n, g, r, count, count < places, c, trail);
+        let s = advance(n, g, r, count, count < places, c, state);
         if !s.found {
             return CatalogueAnswer {
                 number: s.number,
@@ -94,15 +94,15 @@ pub fn list_catalogue(n: usize, g: usize, r: usize, out: &mut [u8]) -> Catalogue
         let t = s.columns;
         put_plan(n, t, count, out);
         c = t;
-        trail = s.trail;
+        state = s.state;
         count += 1;
     }
 }
 
-// A place in the catalogue: the entry's record, and the trail to it.
+// A place in the catalogue: the entry's record, and the state to it.
 struct Stop {
     design: Design,
-    trail: WalkState,
+    state: WalkState,
 }
 
 // What a turn of the loop over records finds: the next place, or the answer.
@@ -114,21 +114,21 @@ struct NextStop {
 
 // The place before the first.
 fn begin() -> Stop
-    ensures { λ res. ⌜ (res .design ≡ blank) × StateOf 0 [] (res .trail) ⌝ }
+    ensures { λ res. ⌜ (res .design ≡ blank) × StateOf 0 [] (res .state) ⌝ }
 {
     let design = blank_design();
-    let trail = walk_start();
-    Stop { design, trail }
+    let state = walk_start();
+    Stop { design, state }
 }
 
 // The entry after the place c, the i-th, or the first if i is 0, where a list of len has a place for it.
 fn step(n: usize, g: usize, r: usize, i: usize, len: usize, c: Stop) -> NextStop
-    requires { ⌜ WalkAt n g r i (c .design .columns) (c .trail) ⌝ }
+    requires { ⌜ WalkAt n g r i (c .design .columns) (c .state) ⌝ }
     ensures { λ res. ⌜ StepAnswers n g r i len c res ⌝ }
 {
     let columns = c.design.columns;
-    let trail = c.trail;
-    let t = advance(n, g, r, i, i < len, columns, trail);
+    let state = c.state;
+    let t = advance(n, g, r, i, i < len, columns, state);
     if !t.found {
         return NextStop {
             found: false,
@@ -140,13 +140,13 @@ fn step(n: usize, g: usize, r: usize, i: usize, len: usize, c: Stop) -> NextStop
         };
     }
     let d = t.columns;
-    let onward = t.trail;
+    let onward = t.state;
     let design = plan_layout::design(n, n - g, d);
     NextStop {
         found: true,
         stop: Stop {
             design,
-            trail: onward,
+            state: onward,
         },
         answer: CatalogueAnswer {
             number: 0,

@@ -99,7 +99,7 @@ module _ {M : Type 1} (𝓤 : URA M) (H : Heap 𝓤) (A : Atoms 𝓤) (mem : Mem
   Stp = tripleOf 𝓤 H A stp.signature (stp.spec 𝓤 H A mem run)
 
   abbrev FirstStop : Stop → Type 0
-  FirstStop d = (d .design ≡ blank) × StateOf 0 [] (d .trail)
+  FirstStop d = (d .design ≡ blank) × StateOf 0 [] (d .state)
 
   beg-of : (d : Stop) → ent 𝓤 (ensured 𝓤 H A beg.ended (beg.clauses 𝓤 H A mem run) tt tt tt d) (fact 𝓤 (FirstStop d))
   beg-of d = exE 𝓤 _ (λ ws. snd∗ 𝓤 (sem 𝓤 H A (lasts beg.ended tt tt ws)) (fact 𝓤 (FirstStop d)))
@@ -190,7 +190,7 @@ module _ {M : Type 1} (𝓤 : URA M) (H : Heap 𝓤) (A : Atoms 𝓤) (W : Given
       tt,
     )
 
-    goes-stp : (c : Stop) (i : ℕ) → i < 2 ^ 64 → WalkAt w g r i (c .design .columns) (c .trail)
+    goes-stp : (c : Stop) (i : ℕ) → i < 2 ^ 64 → WalkAt w g r i (c .design .columns) (c .state)
         → ent 𝓤 (sem 𝓤 H A (P.the-row .own c (held c ∷ []))) (Stp 𝓤 H A mem run .pre (to-stp c i))
     goes-stp c i i-fits go =
         qed W (‵ (P.the-row .own c (held c ∷ [])) ∷ []) ∵
@@ -332,11 +332,11 @@ module _ {M : Type 1} (𝓤 : URA M) (H : Heap 𝓤) (A : Atoms 𝓤) (W : Given
           next-fits : (u : NextStop) → StepAnswers w g r i n c u → T (u .found) → i + 1 < 2 ^ 64
           next-fits u e h = fits (i + 1) (add-one-le (inside u e h))
 
-    start : (d : Stop) → Is P.the-row d (held d ∷ []) → StateOf 0 [] (d .trail) → State
+    start : (d : Stop) → Is P.the-row d (held d ∷ []) → StateOf 0 [] (d .state) → State
     start d is-d h = (0, (ys, (d, (zero-le, (refl, (is-d, listing-none w g r ys d h))))))
 
     looped : (𝓣 : Tables 𝓤 H) (known : Triple 𝓤 (𝓣 .C #catalogue·step) (Stp 𝓤 H A mem run)) (l₀ l₁ l₂ l₃ l₄ l₅ l₆ l₇ l₈ l₉ l₁₀ l₁₁ : ℕ) (d : Stop)
-        → Is P.the-row d (held d ∷ []) → StateOf 0 [] (d .trail)
+        → Is P.the-row d (held d ∷ []) → StateOf 0 [] (d .state)
         → ent 𝓤 (⋆ 𝓤 H A (Ctx 𝓣 known l₀ l₁ l₂ l₃ l₄ l₅ l₆ l₇ l₈ l₉ l₁₀ l₁₁ 0 ys d))
         (Wp 𝓤 H (𝓣 .C) (𝓣 .Λ) (En 𝓣 known l₀ l₁ l₂ l₃ l₄ l₅ l₆ l₇ l₈ l₉ l₁₀ l₁₁) m.t-3 (atReturn 𝓤 H (En 𝓣 known l₀ l₁ l₂ l₃ l₄ l₅ l₆ l₇ l₈ l₉ l₁₀ l₁₁) Post))
     unfolding start

@@ -11,10 +11,10 @@ use Rattle.catalogue.proofs.list_catalogue.Statement.{statement}
 use Rattle.catalogue.proofs.list_catalogue.Tie as tie
 
 abbrev Inv-loop : tie.InvT-loop
-Inv-loop n g r out₀ places c₀ trail₀ count₀ out c trail count = FillingBytes n g r out₀ out count c trail
+Inv-loop n g r out₀ places c₀ state₀ count₀ out c state count = FillingBytes n g r out₀ out count c state
 
 abbrev μ-loop : tie.MeasureT-loop
-μ-loop n g r out₀ places c₀ trail₀ count₀ out c trail count = places - count
+μ-loop n g r out₀ places c₀ state₀ count₀ out c state count = places - count
 
 plan-count-requires : tie.Need-plan-count-requires Inv-loop μ-loop
 plan-count-requires c κs = search needs
@@ -42,7 +42,7 @@ module _ (c : tie.Else1 Inv-loop μ-loop) where
 
   found : NextFound (start turn .args .n) (start turn .args .g) (start turn .args .r) (turn .loop .count)
       (ltb (turn .loop .count) (turn .before .before .plan-count .result)) (turn .loop .c)
-      (c .before .before .advance .result .columns) (c .before .before .advance .result .trail)
+      (c .before .before .advance .result .columns) (c .before .before .advance .result .state)
   found = c .before .before .advance .ensures .goes (not-false _ (c .if1 .left))
 
   inside : turn .loop .count < turn .before .before .plan-count .result
@@ -52,7 +52,7 @@ returns : tie.Need-returns Inv-loop μ-loop
 returns c =
     let t = c .before .before .before in
     let a = start t .args in
-    filling-stops (a .n) (a .g) (a .r) (a .out .now) (t .loop .out) (t .loop .count) (t .loop .c) (t .loop .trail)
+    filling-stops (a .n) (a .g) (a .r) (a .out .now) (t .loop .out) (t .loop .count) (t .loop .c) (t .loop .state)
     (t .loop .inv) _ (t .before .before .plan-count .ensures) _
     (c .before .before .advance .ensures .stops (not-true _ (c .if1 .taken)))
 
@@ -63,7 +63,7 @@ put-plan-requires c κs =
     let a = start t .args in
     let f = found e in (
       f .sized .size .most,
-      filling-room (a .n) (a .g) (a .r) (a .out .now) (t .loop .out) (t .loop .count) (t .loop .c) (t .loop .trail)
+      filling-room (a .n) (a .g) (a .r) (a .out .now) (t .loop .out) (t .loop .count) (t .loop .c) (t .loop .state)
           (t .loop .inv) _ (t .before .before .plan-count .ensures) _ _ f,
     )
 
@@ -80,7 +80,7 @@ loop-again c =
     let e = c .before .before .before .before .before .before in
     let t = turn e in
     let a = start t .args in
-    filling-more (a .n) (a .g) (a .r) (a .out .now) (t .loop .out) (t .loop .count) (t .loop .c) (t .loop .trail)
+    filling-more (a .n) (a .g) (a .r) (a .out .now) (t .loop .out) (t .loop .count) (t .loop .c) (t .loop .state)
     (t .loop .inv) _ (t .before .before .plan-count .ensures) _ _ _ (found e)
     (c .before .before .before .put-plan .ensures)
 
