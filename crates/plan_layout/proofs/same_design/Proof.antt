@@ -18,11 +18,11 @@ same-columns-requires c κs = search needs
 
 returns-3 : tie.Need-returns-3
 returns-3 c =
-    let a = c .before .before .before .before .before .before .before .before .before .args in
-    let f = c .before .before .before .before .before .before .if1 .left in
-    let b = c .before .before .before .if2 .left in
+    let basics = c .before .before .before in
+    let factors = basics .before .before .before in
+    let a = factors .before .before .before .args in
     let e = c .same-columns .ensures in
-    ((λ y. design-equal (a .c) (a .d) f b (e .0 y)), (λ y q. e .1 y (ap (λ (x : Design). x .columns) q)))
+    ((λ y. design-equal (a .c) (a .d) (factors .if1 .left) (basics .if2 .left) (e .0 y)), (λ y q. e .1 y (ap (λ (x : Design). x .columns) q)))
 
 pub same-design-spec : {M : Type 1} → statement M
 same-design-spec = tie.close (tie.spec returns returns-2 same-columns-requires returns-3)

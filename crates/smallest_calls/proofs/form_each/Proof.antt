@@ -18,12 +18,15 @@ Inv-loop n g plans forms₀ witnesses₀ count i₀ forms witnesses i = ReducedT
 abbrev μ-loop : tie.MeasureT-loop
 μ-loop n g plans forms₀ witnesses₀ count i₀ forms witnesses i = count - i
 
+abbrev start : tie.After-plan-count Inv-loop μ-loop → tie.Start Inv-loop μ-loop
+start c = c .before .before .before .before
+
 plan-count-requires : tie.Need-plan-count-requires Inv-loop μ-loop
 plan-count-requires c κs = search needs
 
 loop-holds : tie.Need-loop-holds Inv-loop μ-loop
 loop-holds c =
-    let s = c .before .before .before .before in
+    let s = start c in
     let a = s .args in
     let p = s .pre in
     (reduced-none (a .n) (a .g) (a .plans .now) (p .0) (a .forms .now) (a .witnesses .now) (p .1) (p .2), omega arith)
@@ -31,7 +34,7 @@ loop-holds c =
 -- a turn: the plan is there, and its places in both lists
 module _ (c : tie.In-loop Inv-loop μ-loop) where
   abbrev begun : tie.Start Inv-loop μ-loop
-  begun = c .before .before .before .before .before .before
+  begun = start (c .before .before)
 
   less : c .before .loop .i < planCount (begun .args .n) (length (begun .args .plans .now))
   less = omega (arith, c .before .before .plan-count .ensures, c .loop-test .taken)
@@ -79,6 +82,10 @@ module _ (c : tie.After-plan-start2 Inv-loop μ-loop) where
   ends : (xs : List ℕ) → HasPlan (begun turn .args .n) xs (turn .before .loop .i) → c .plan-start2 .result ≤ length xs
   ends xs h = omega (arith, h, c .plan-start2 .ensures, ap (planStart (begun turn .args .n)) (add-one (turn .before .loop .i)))
 
+-- from the call back there
+abbrev places : tie.After-form-into-arg3 Inv-loop μ-loop → tie.After-plan-start2 Inv-loop μ-loop
+places c = c .before .before .before
+
 sub-form-into : tie.Need-sub-form-into Inv-loop μ-loop
 sub-form-into c = ordered c
 
@@ -108,31 +115,31 @@ part-form-into-end-3 c = let p = c .before .before in ends p (turn p .before .lo
 
 form-into-requires : tie.Need-form-into-requires Inv-loop μ-loop
 form-into-requires c κs =
-    let p = c .before .before .before in
+    let p = places c in
     let w = turn p in
     let a = begun w .args in
     let q = begun w .pre in
     let l = w .before .loop in
     let from = p .before .plan-start in
-    let to = p .plan-start2 in (
+    let to = p .plan-start2 in
+    let place = turn-place (a .n) (a .g) (a .plans .now) (q .0) (a .forms .now) (a .witnesses .now) (q .1) (q .2) (l .i) (l .forms) (l .witnesses) (l .inv .0)
+    (less w) (from .result) (to .result) (from .ensures) (to .ensures) in (
       turn-columns (a .n) (a .g) (a .plans .now) (q .0) (a .forms .now) (a .witnesses .now) (q .1) (q .2) (l .i) (l .forms) (l .witnesses) (l .inv .0) (less w)
           (from .result) (to .result) (from .ensures) (to .ensures),
-      turn-place (a .n) (a .g) (a .plans .now) (q .0) (a .forms .now) (a .witnesses .now) (q .1) (q .2) (l .i) (l .forms) (l .witnesses) (l .inv .0) (less w)
-          (from .result) (to .result) (from .ensures) (to .ensures) (l .forms) (fits w .0),
-      turn-place (a .n) (a .g) (a .plans .now) (q .0) (a .forms .now) (a .witnesses .now) (q .1) (q .2) (l .i) (l .forms) (l .witnesses) (l .inv .0) (less w)
-          (from .result) (to .result) (from .ensures) (to .ensures) (l .witnesses) (fits w .1),
+      place (l .forms) (fits w .0),
+      place (l .witnesses) (fits w .1),
     )
 
 add-i : tie.Need-add-i Inv-loop μ-loop
 add-i c = search needs
 
 loop-less : tie.Need-loop-less Inv-loop μ-loop
-loop-less c = omega (arith, c .before .before .before .before .before .before .before .before .before .before .loop-test .taken)
+loop-less c = let f = c .before .before .before .before in omega (arith, turn (places (f .before)) .loop-test .taken)
 
 loop-again : tie.Need-loop-again Inv-loop μ-loop
 loop-again c =
     let f = c .before .before .before .before in
-    let p = f .before .before .before .before in
+    let p = places (f .before) in
     let w = turn p in
     let a = begun w .args in
     let q = begun w .pre in
@@ -153,7 +160,7 @@ same-length-2 c = c .before .loop .inv .0 .size .1
 
 returns : tie.Need-returns Inv-loop μ-loop
 returns c =
-    let a = c .before .before .before .before .before .before .args in
+    let a = start (c .before .before) .args in
     let l = c .before .loop in
     let e : l .i ≡ planCount (a .n) (length (a .plans .now)) = omega (arith, l .inv .1, c .before .before .plan-count .ensures, c .loop-test .left) in
     subst (λ (i : ℕ). ReducedTo (a .n) (a .g) (a .plans .now) i (a .forms .now) (l .forms) (a .witnesses .now) (l .witnesses)) e (l .inv .0)

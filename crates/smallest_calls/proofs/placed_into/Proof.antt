@@ -6,6 +6,13 @@ use Rattle.smallest_calls.proofs.placed_into.Statement.{statement}
 use Rattle.smallest_calls.proofs.placed_into.Tie as tie
 use borrow.Author.Needs.{needs}
 
+-- from the form lent back to where it is accepted, and from there to the start
+abbrev accepted : tie.After-lend-first → tie.Else1
+accepted c = c .before .before .before
+
+abbrev start : tie.Else1 → tie.Start
+start c = c .before .before .before
+
 returns : tie.Need-returns
 returns c =
     record {
@@ -19,12 +26,12 @@ returns c =
     }
 
 lend-first-requires : tie.Need-lend-first-requires
-lend-first-requires c κs =
-    c .before .before .before .before .before .pre (c .before .before .if1 .left) .1
+lend-first-requires c κs = let z = c .before .before in start z .pre (z .if1 .left) .1
 
 first-columns-requires : tie.Need-first-columns-requires
 first-columns-requires c κs =
-    let p = c .before .before .before .before .before .before .before .before .pre (c .before .before .before .before .before .if1 .left) in
+    let z = accepted (c .before .before) in
+    let p = start z .pre (z .if1 .left) in
     (p .0, p .1)
 
 same-length : tie.Need-same-length
@@ -32,10 +39,13 @@ same-length c = search needs
 
 returns-2 : tie.Need-returns-2
 returns-2 c =
-    let l = c .before .before .before .lend-first in
-    let e = c .before .before .before .before .before .before .if1 .left in
-    let a = c .before .before .before .before .before .before .before .before .before .args in
-    let p = c .before .before .before .before .before .before .before .before .before .pre e in
+    let q = c .before .before .before in
+    let l = q .lend-first in
+    let z = accepted q in
+    let s = start z in
+    let a = s .args in
+    let e = z .if1 .left in
+    let p = s .pre e in
     record {
       number = refl;
       mask = refl;
