@@ -7,6 +7,9 @@ pub const BASICS: usize = 7;
 
 pub const RUNS: usize = 128;
 
+// A place for each basic factor, and one more.
+pub const UNITS: usize = 8;
+
 // How many numbers a column may be: those of seven bits, one for each basic factor.
 pub const NUMBERS: usize = 128;
 
