@@ -11,7 +11,7 @@ use lib.Dec.{T, ltb}
 use lib.ListN.{length, getD, drop, set, length-set}
 use lib.Seq.{getD-set-same, getD-set-other, drop-set-lt, drop-drop}
 use Rattle.gf2.specs.Truth.{clash}
-use Rattle.regular.specs.Designs.{designOf, blank}
+use Rattle.regular.specs.Designs.{Holds, designOf, blank, design-holds}
 use Rattle.regular.specs.declared.Design.{Design}
 use Rattle.regular.specs.Smallest.{Entry}
 use Rattle.entries.specs.declared.WalkState.{WalkState}
@@ -20,7 +20,7 @@ use Rattle.catalogue.specs.declared.NextStop.{NextStop}
 use Rattle.catalogue.specs.declared.Stop.{Stop}
 use Rattle.regular.specs.Catalogues.{ListsDesigns}
 use Rattle.catalogue.specs.Turns.{Turned}
-use Rattle.catalogue.specs.Records.{Head, StepAnswers, FillingRecords}
+use Rattle.catalogue.specs.Records.{StepAnswers, FillingRecords}
 use Rattle.catalogue.proofs.Turns.{with-entry, with-same, with-other, progress-none, progress-more, stopped}
 
 pub holds : (t : Bool) → T t → t ≡ true
@@ -38,7 +38,7 @@ module _ (n g r i len : ℕ) (c : Stop) where
       → StepAnswers n g r i len c (record { found = false; stop = c; answer = record { number = number; count = i } })
   stepped-stops found number d w t e = record {
     goes = λ q. absurd (clash q refl);
-    head = λ q. absurd (clash q refl);
+    made = λ q. absurd (clash q refl);
     stops = λ _. t .stops e;
     count = refl;
   }
@@ -51,7 +51,7 @@ module _ (n g r i len : ℕ) (c : Stop) where
       → Turned n g r i (ltb i len) (c .design .columns) found number d w → found ≡ true → StepAnswers n g r i len c (found-answer made w)
   stepped-goes found number d w made p t e = subst (λ (x : Design). StepAnswers n g r i len c (found-answer x w)) (sym p) (record {
     goes = λ _. t .goes e;
-    head = λ _. record { factors = refl; basics = refl };
+    made = λ _. refl;
     stops = λ y. absurd (clash refl y);
     count = refl;
   })
@@ -63,8 +63,7 @@ listing-none n g r ys c h = record {
   progress = progress-none n g r (λ _. []) (c .design .columns) (c .state) h;
   room = omega arith;
   size = refl;
-  entries = λ j h. absurd (omega arith);
-  heads = λ j h. absurd (omega arith);
+  records = λ j h. absurd (omega arith);
   rest = refl;
 }
 
@@ -80,18 +79,16 @@ module _ (n g r : ℕ) (ys zs : List Design) (i : ℕ) (c : Stop) (x : FillingRe
       let h = listing-room e in
       let new : getD zs' i blank ≡ d = getD-set-same zs i d blank (omega (arith, x .size)) in
       let old : (j : ℕ) → (j ≡ i → ⊥) → getD zs' j blank ≡ getD zs j blank = λ j ne. getD-set-other zs i j d blank ne in
+      let all = with-entry (x .all) i (d .columns) in
       record {
-        all = with-entry (x .all) i (d .columns);
+        all = all;
         progress = progress-more n g r i (x .all) (ltb i (length ys)) (c .design .columns) (d .columns) (c .state) (s .stop .state) (x .progress) (t .goes e);
         room = omega arith;
         size = length-set zs i d ∙ x .size;
-        entries = λ j l. by-cases (ℕ-discrete j i)
-            (λ q. subst (λ (k : ℕ). with-entry (x .all) i (d .columns) k ≡ getD zs' k blank .columns) (sym q)
-            (with-same (x .all) i (d .columns) ∙ ap (λ (y : Design). y .columns) (sym new)))
-            (λ ne. with-other (x .all) i (d .columns) j ne ∙ x .entries j (omega arith) ∙ ap (λ (y : Design). y .columns) (sym (old j ne)));
-        heads = λ j l. by-cases (ℕ-discrete j i)
-            (λ q. subst (λ (k : ℕ). Head n (n - g) (getD zs' k blank)) (sym q) (subst (λ (y : Design). Head n (n - g) y) (sym new) (t .head e)))
-            (λ ne. subst (λ (y : Design). Head n (n - g) y) (sym (old j ne)) (x .heads j (omega arith)));
+        records = λ j l. by-cases (ℕ-discrete j i)
+            (λ q. subst (λ (k : ℕ). getD zs' k blank ≡ designOf n (n - g) (all k)) (sym q)
+            (new ∙ t .made e ∙ ap (designOf n (n - g)) (sym (with-same (x .all) i (d .columns)))))
+            (λ ne. old j ne ∙ x .records j (omega arith) ∙ ap (designOf n (n - g)) (sym (with-other (x .all) i (d .columns) j ne)));
         rest = drop-set-lt (i + 1) zs i d (omega arith) ∙ sym (drop-drop 1 i zs) ∙ ap (drop 1) (x .rest) ∙ drop-drop 1 i ys;
       }
 
@@ -99,17 +96,11 @@ module _ (n g r : ℕ) (ys zs : List Design) (i : ℕ) (c : Stop) (x : FillingRe
   listing-stops e = subst (λ (k : ℕ). ListsDesigns n g r ys zs (s .answer .number) k) (sym (t .count)) (record {
     catalogues = stopped n g r (λ k. k ≤ length ys) (λ a b h l. omega arith) i (x .all) (c .design .columns) (c .state) (x .progress) (x .room)
         (λ j. getD zs j blank .columns)
-        (λ j h f l. ap (λ (y : List ℕ). getD y f 0) (x .entries j h)) (s .answer .number) (ltb i (length ys))
+        (λ j h f l. ap (λ (y : Design). getD (y .columns) f 0) (sym (x .records j h))) (s .answer .number) (ltb i (length ys))
         (λ _ q l. omega (arith, ltb-false i (length ys) q)) (t .stops e);
     records = λ j h.
         let b = x .progress .begun j h .held in
-        let q = x .entries j h in
-        record {
-          factors = x .heads j h .factors;
-          basics = x .heads j h .basics;
-          columns = subst (λ (y : List ℕ). Entry n (n - g) r y) q (b .entry);
-          unused = λ f l _. ap (λ (y : List ℕ). getD y f 0) (sym q) ∙ b .rest f l;
-        };
+        subst (Holds n (n - g) (Entry n (n - g) r)) (sym (x .records j h)) (design-holds n (n - g) (Entry n (n - g) r) (x .all j) (b .entry) (b .rest));
     rest = x .rest;
     size = x .size;
   })

@@ -7,7 +7,7 @@ use lib.ListN.{getD, replicate}
 use Rattle.regular.specs.Runs.{Runs}
 use Rattle.regular.specs.Words.{Reduced}
 use Rattle.regular.specs.Columns.{StandardColumns, RunTable, RunsOfPlan, Listed}
-use Rattle.regular.specs.Designs.{Holds, designOf, blank}
+use Rattle.regular.specs.Designs.{Holds, designOf, blank, design-holds}
 use Rattle.regular.specs.Smallest.{Equal}
 use Rattle.regular.specs.Refusals.{Gives, LentFault, either, Fills}
 use Rattle.regular.specs.declared.Design.{Design}
@@ -56,12 +56,7 @@ module _ {n g : ℕ} {p : Given} {x : Admitted} (ad : Admission n g p x) (s : Ru
         number = ad .lowest;
         refused = h .refused;
         result = λ e. subst (Holds n (n - g) (StandardColumns n (n - g) s)) (sym (h .made e))
-            (record {
-              factors = refl;
-              basics = refl;
-              columns = form-standard n (n - g) s a (standard e);
-              unused = λ f l _. ad .unused e f l;
-            });
+            (design-holds n (n - g) (StandardColumns n (n - g) s) a (form-standard n (n - g) s a (standard e)) (ad .unused e));
       })
 
   -- words, in a lent list

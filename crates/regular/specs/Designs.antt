@@ -1,6 +1,6 @@
 -- The design record: what it holds, and the plan that it describes (document 01, "Plans in three forms").
 use Prim.Native.Nat.{ℕ, _*_, _^_, _≤_, _<_}
-use mathlib.Core.Path.{_≡_}
+use mathlib.Core.Path.{_≡_, refl}
 use mathlib.Core.List.{List}
 use native.Mathlib.Nat.{le-of-lt, lt-trans, lt-of-le-of-lt, mul-le-mul-right}
 use lib.Dec.{lit<}
@@ -17,6 +17,13 @@ pub record Holds (n m : ℕ) (Wanted : List ℕ → Type 0) (d : Design) : Type 
 -- the record of n factors, m basics and sixteen columns
 abbrev pub designOf : ℕ → ℕ → List ℕ → Design
 designOf n m c = record { factors = n; basics = m; columns = c }
+
+-- it holds what its columns are; and a record holds whatever is true of its columns
+pub design-holds : (n m : ℕ) (Wanted : List ℕ → Type 0) (c : List ℕ) → Wanted c → ((f : ℕ) → n ≤ f → getD c f 0 ≡ 0) → Holds n m Wanted (designOf n m c)
+design-holds n m Wanted c w z = record { factors = refl; basics = refl; columns = w; unused = λ f l _. z f l }
+
+pub holds-also : {n m : ℕ} {Wanted : List ℕ → Type 0} (Also : List ℕ → Type 0) (d : Design) → Holds n m Wanted d → Also (d .columns) → Holds n m Also d
+holds-also Also d h a = record { factors = h .factors; basics = h .basics; columns = a; unused = h .unused }
 
 -- the record of a refused call
 abbrev pub blank : Design

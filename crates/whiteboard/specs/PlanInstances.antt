@@ -18,7 +18,7 @@ use Rattle.regular.specs.Runs.{runsOf, switched, Regular, Table}
 use Rattle.regular.specs.Words.{Word, NoShort, Generated, total, Independent, Last, Reduced}
 use Rattle.regular.specs.Columns.{runOf, planOf, Below, Column, Spans, Listed, RunTable, Basic, StandardColumns, RunsOfPlan}
 use Rattle.regular.specs.Pattern.{Pattern, sumTo, Resolution, Distances, Better, LessAberration, ofLength}
-use Rattle.regular.specs.Designs.{Holds, designOf, designBytes}
+use Rattle.regular.specs.Designs.{Holds, designOf, designBytes, design-holds}
 use Rattle.regular.specs.Comparisons.{Witness}
 use Rattle.regular.specs.Refusals.{Short}
 use Rattle.regular.specs.Same.{moved, Renaming, Same}
@@ -293,23 +293,19 @@ design-bytes = refl
 
 pub holds-abc : Holds 4 3 (Entry 4 3 3) recordABC
 unfolding below
-holds-abc = record {
-  factors = refl;
-  basics = refl;
-  columns = entry-equal 4 3 abc (abc ++ replicate 12 0) (agree-at (λ f. getD abc f 0) (λ f. getD (abc ++ replicate 12 0) f 0) 4 refl) 3
-      (catalogue-4 .sound 0 (omega arith));
-  unused = λ f h l. past-front abc 12 f h;
-}
+holds-abc =
+    design-holds 4 3 (Entry 4 3 3) (abc ++ replicate 12 0)
+    (entry-equal 4 3 abc (abc ++ replicate 12 0) (agree-at (λ f. getD abc f 0) (λ f. getD (abc ++ replicate 12 0) f 0) 4 refl) 3
+    (catalogue-4 .sound 0 (omega arith)))
+    (past-front abc 12)
 
 pub holds-abcd : Holds 4 3 (Entry 4 3 3) recordABCD
 unfolding below
-holds-abcd = record {
-  factors = refl;
-  basics = refl;
-  columns = entry-equal 4 3 abcd (abcd ++ replicate 12 0) (agree-at (λ f. getD abcd f 0) (λ f. getD (abcd ++ replicate 12 0) f 0) 4 refl) 3
-      (catalogue-4 .sound 1 (omega arith));
-  unused = λ f h l. past-front abcd 12 f h;
-}
+holds-abcd =
+    design-holds 4 3 (Entry 4 3 3) (abcd ++ replicate 12 0)
+    (entry-equal 4 3 abcd (abcd ++ replicate 12 0) (agree-at (λ f. getD abcd f 0) (λ f. getD (abcd ++ replicate 12 0) f 0) 4 refl) 3
+    (catalogue-4 .sound 1 (omega arith)))
+    (past-front abcd 12)
 
 -- the same plan: 000's plans of 124, 135 and of 124, 1235, the second with factor 3 switched, by a renaming that moves four factors
 abbrev pub runsA : List ℕ

@@ -21,6 +21,7 @@ use Rattle.regular.specs.Designs.{Holds}
 use Rattle.regular.specs.Refusals.{SizeFault, ResolutionFault, WordsFault, ColumnsFault, ListFault, RecordFault, TableFault, WantedFault, LentFault}
 use Rattle.regular.specs.Refusals.{RoomFault, either, sizeFaults, wordsFaults, runsFaults, designFaults, columnsFaults, Lowest}
 use Rattle.regular.specs.RefusalLaws.{lowest-none, lowest-at, words-least, none-lowest, lent-is}
+use Rattle.regular.specs.Accepted.{entry-accepted}
 use Rattle.regular.specs.PlanLists.{BytesFault}
 use Rattle.regular.specs.Catalogues.{catalogueFaults}
 use Rattle.regular.specs.Smallest.{Entry}
@@ -201,18 +202,10 @@ accepted-disguised =
 
 -- a record that holds an entry
 pub design-none : (d : Design) → Holds 4 3 (Entry 4 3 3) d → (k : ℕ) → designFaults 4 1 d k → ⊥
-design-none d h k f =
-    let e = h .columns in
-    ⊎-elim (size-none 4 1 size-4 k)
-    (λ p. ⊎-elim (none k) (columns-none 4 3 (d .columns) (e .smallest .columns .below) (e .smallest .columns .rank) (e .long) k) p) f
-  where
-    none : (k : ℕ) → RecordFault 4 3 d k → ⊥
-    none k (RecordFault.factors n) = n (h .factors)
-    none k (RecordFault.basics n) = n (h .basics)
-    none k (RecordFault.used f l p n) = n (h .unused f l p)
+design-none d h = none-lowest (designFaults 4 1 d) (entry-accepted 4 1 3 d size-4 (omega arith) h)
 
 pub accepted-design : Lowest (designFaults 4 1 recordABC) 0
-accepted-design = lowest-none (designFaults 4 1 recordABC) (design-none recordABC holds-abc)
+accepted-design = entry-accepted 4 1 3 recordABC size-4 (omega arith) holds-abc
 
 -- runs that are not regular, refused by 6
 pub refused-runs : Lowest (runsFaults 3 1 (0 ∷ 1 ∷ 2 ∷ 4 ∷ [])) 6

@@ -11,7 +11,7 @@ use Rattle.standard.specs.Runs.{plan-cols}
 use Rattle.gf2.specs.Digits.{odd}
 use Rattle.gf2.specs.Lists.{listTo}
 use Rattle.regular.specs.Columns.{planOf, runOf}
-use Rattle.regular.specs.Designs.{blank}
+use Rattle.regular.specs.Designs.{blank, holds-also}
 use Rattle.regular.specs.PlanBytes.{planBytes, planStart, planAt, HasPlan, planCount}
 use Rattle.regular.specs.PlanLists.{BytesFault, recordsFaults, plansFaults}
 use Rattle.regular.specs.RefusalLaws.{lowest-none, none-lowest, lowest-then, lowest-first, lent-is, lent-fits, lent-short}
@@ -107,7 +107,7 @@ reduces = record {
   no-mask = λ h. absurd (omega arith);
   no-place = λ h. absurd (omega arith);
   untouched = λ h. absurd (omega arith);
-  design = λ e. record { factors = refl; basics = refl; columns = formed-disguised; unused = holds-abc .unused };
+  design = λ e. holds-also (λ c. Formed 4 3 (ofRuns 4 1 disguised) c (3 ∷ 0 ∷ 1 ∷ 2 ∷ 9 ∷ []) 9) recordABC holds-abc formed-disguised;
   place = λ e. place-found;
   past = λ e. refl;
   size = refl;
