@@ -1,5 +1,5 @@
 -- The lowest fault of each argument, found in the order of the numbers: of the sizes, of the wanted resolution, of words, columns, a run table,
--- a design record, a list of columns.
+-- a design record, a list of columns. And a word of fewer than three letters is a fault.
 use Prim.Native.Nat.{ℕ, _-_, _^_, _≤_, _<_}
 use mathlib.Core.Path.{_≡_, subst}
 use mathlib.Core.Logic.{_⊎_, inl, inr}
@@ -11,10 +11,12 @@ use Rattle.regular.specs.Sizes.{Size, Sized}
 use Rattle.regular.specs.Runs.{Runs, Table, runsOf}
 use Rattle.regular.specs.Words.{NoShort, Generated, Independent}
 use Rattle.regular.specs.Columns.{planOf, Below, Spans}
-use Rattle.regular.specs.Refusals.{Short, SizeFault, ResolutionFault, WordsFault, ColumnsFault, ListFault, RecordFault, TableFault, Lowest, sizeFaults}
+use Rattle.regular.specs.Refusals.{SizeFault, ResolutionFault, WordsFault, ColumnsFault, ListFault, RecordFault, TableFault, WantedFault}
+use Rattle.regular.specs.Refusals.{Short, Lowest, sizeFaults}
 use Rattle.regular.specs.RefusalLaws.{lowest-none, lowest-at, lowest-first, lowest-then, size-most, resolution-is}
 use Rattle.regular.specs.RefusalLaws.{words-least, columns-least, list-is, record-least, table-least}
 use Rattle.regular.specs.Accepted.{sizes-accepted}
+use Rattle.regular.specs.Given.{ofColumns, ofDesign}
 use Rattle.regular.specs.declared.Design.{Design}
 
 -- sizes
@@ -217,3 +219,10 @@ list-0 n c e = lowest-none (ListFault n c) never
   where
     never : (k : ℕ) → ListFault n c k → ⊥
     never k (ListFault.count p) = p e
+
+-- a word of fewer than three letters is a fault of columns and of a record
+pub columns-three : (n g : ℕ) (c : List ℕ) (k : ℕ) → WantedFault n 3 (ofColumns n g c .plan) k → ofColumns n g c .faults k
+columns-three n g c k (WantedFault.short w) = inr (inr (ColumnsFault.short w))
+
+pub design-three : (n g : ℕ) (d : Design) (k : ℕ) → WantedFault n 3 (ofDesign n g d .plan) k → ofDesign n g d .faults k
+design-three n g d k (WantedFault.short w) = inr (inr (ColumnsFault.short w))

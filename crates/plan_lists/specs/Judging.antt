@@ -12,7 +12,7 @@ use Rattle.regular.specs.Given.{Given}
 use Rattle.regular.specs.Words.{NoShort}
 use Rattle.regular.specs.Columns.{planOf}
 use Rattle.regular.specs.Designs.{blank}
-use Rattle.regular.specs.Refusals.{Short, ResolutionFault, ColumnsFault, WantedFault, either, Lowest, sizeFaults}
+use Rattle.regular.specs.Refusals.{Short, ResolutionFault, WantedFault, either, Lowest, sizeFaults}
 use Rattle.regular.specs.RefusalLaws.{lowest-none, lowest-at, lowest-same, lowest-first, lowest-then, lowest-lower, none-lowest, list-is, columns-least, Lower}
 use Rattle.regular.specs.PlanBytes.{planStart, planAt, planCount}
 use Rattle.regular.specs.PlanLists.{BytesFault, ofSome, recordsFaults, plansFaults, wantedRecordsFaults, wantedPlansFaults}
@@ -21,6 +21,7 @@ use Rattle.regular.specs.declared.Admitted.{Admitted}
 use Rattle.words.specs.Short.{distinct-long}
 use Rattle.words.specs.Switches.{agree-sym, short-agree, short-switched, switched-twice}
 use Rattle.admission.specs.Admission.{Admission, Ready}
+use Rattle.admission.specs.Faults.{columns-three, design-three}
 use Rattle.plan_layout.specs.Places.{count-held, held-count}
 use Rattle.plan_lists.specs.Judged.{wanted, designWanted, columnsWanted, WantedNumber, JudgedMore, AllJudged}
 
@@ -150,7 +151,7 @@ three-records n g list k = lowest-same (wantedRecordsFaults n g 3 list) (records
     into : (j : ℕ) → wantedRecordsFaults n g 3 list j → recordsFaults n g list j
     into j (inl f) = f
     into j (inr (inl f)) = absurd (resolution-3 j f)
-    into j (inr (inr (i, (l, WantedFault.short w)))) = inr (i, (l, inr (inr (ColumnsFault.short w))))
+    into j (inr (inr (i, (l, f)))) = inr (i, (l, design-three n g (getD list i blank) j f))
 
 pub three-plans : (n g : ℕ) (bytes : List ℕ) (k : ℕ) → Lowest (wantedPlansFaults n g 3 bytes) k → Lowest (plansFaults n g bytes) k
 three-plans n g bytes k = lowest-same (wantedPlansFaults n g 3 bytes) (plansFaults n g bytes) k into (λ j f. inl f)
@@ -158,7 +159,7 @@ three-plans n g bytes k = lowest-same (wantedPlansFaults n g 3 bytes) (plansFaul
     into : (j : ℕ) → wantedPlansFaults n g 3 bytes j → plansFaults n g bytes j
     into j (inl f) = f
     into j (inr (inl f)) = absurd (resolution-3 j f)
-    into j (inr (inr (i, (l, WantedFault.short w)))) = inr (inr (i, (l, inr (inr (ColumnsFault.short w)))))
+    into j (inr (inr (i, (l, f)))) = inr (inr (i, (l, columns-three n g (planAt n bytes i) j f)))
 
 -- plans as bytes
 module _ (n g r : ℕ) (bytes : List ℕ) where

@@ -5,7 +5,7 @@ use mathlib.Core.List.{List, [], _∷_, _++_}
 use Prim.Native.Nat.{ℕ, zero, suc, _+_, _-_, _*_, _/_, _%_}
 use lib.Dec.{ltb}
 use lib.ListN.{length, getD, take, drop}
-use Rattle.regular.specs.Columns.{planOf}
+use Rattle.regular.specs.Given.{ofDesign}
 use Rattle.regular.specs.Pattern.{Pattern, Resolution, ofLength}
 use Rattle.regular.specs.Book.{each}
 use Rattle.regular.specs.declared.Design.{Design}
@@ -96,6 +96,6 @@ pub record TextAdded (before after : List ℕ) (at : ℕ) (t : List ℕ) (end : 
 pub record EntryLine (n g place : ℕ) (d : Design) (before after : List ℕ) (at end : ℕ) : Type 0 where
   pub resolution : ℕ
   pub pattern : List ℕ
-  pub is-resolution : Resolution n (planOf n (n - g) (d .columns)) resolution
-  pub is-pattern : Pattern n (planOf n (n - g) (d .columns)) pattern
+  pub is-resolution : Resolution n (ofDesign n g d .plan) resolution
+  pub is-pattern : Pattern n (ofDesign n g d .plan) pattern
   pub text : TextAdded before after at (entry n place resolution (d .columns) pattern) end

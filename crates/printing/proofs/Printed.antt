@@ -5,9 +5,14 @@ use Prim.Native.Nat.{ℕ, suc, _+_, _-_, _≤_, _<_}
 use native.Mathlib.Omega.{arith}
 use lib.ListN.{length, getD, replicate, length-replicate}
 use Rattle.regular.specs.Refusals.{Lowest}
+use Rattle.regular.specs.Columns.{planOf}
 use Rattle.regular.specs.Designs.{blank}
+use Rattle.regular.specs.Given.{ofDesign}
+use Rattle.regular.specs.GivenLaws.{holds-plan}
 use Rattle.regular.specs.Catalogues.{catalogueFaults, ListsDesigns}
 use Rattle.regular.specs.declared.Design.{Design}
+use Rattle.words.specs.Switches.{pattern-agree, resolution-agree}
+use Rattle.printed_lines.specs.Listed.{Listable}
 use Rattle.printed_lines.specs.Text.{TextAdded, EntryLine, headerLine, refused}
 use Rattle.printing.specs.Output.{Lines, printedFaults, SizeOutput, Printed, EntryLines}
 use Rattle.printing.specs.Counting.{counts}
@@ -18,24 +23,29 @@ use Rattle.printing.proofs.Entries.{getD-within}
 pub lines-none : (n g : ℕ) (list : List Design) (xs : List ℕ) (at : ℕ) → EntryLines n g 0 list xs xs at at
 lines-none n g list xs at = record { lines = []; are = Lines.none; text = adds-none xs at }
 
-line-more : {n g k : ℕ} {list : List Design} {xs ys zs : List ℕ} {at mid end : ℕ} → EntryLines n g k list xs ys at mid
+line-more : {n g k : ℕ} {list : List Design} {xs ys zs : List ℕ} {at mid end : ℕ} → Listable n g (getD list k blank) → EntryLines n g k list xs ys at mid
     → EntryLine n g (suc k) (getD list k blank) ys zs mid end → EntryLines n g (suc k) list xs zs at end
-line-more {k = k} l e =
+line-more {n} {g} {k} {list} h l e =
+    let d = getD list k blank in
+    let given = ofDesign n g d .plan in
+    let plan = planOf n (n - g) (d .columns) in
+    let same = holds-plan n g d (h .holds) in
     record {
       lines = _;
-      are = Lines.more k (l .lines) (e .resolution) (e .pattern) (l .are) (e .is-resolution) (e .is-pattern);
+      are = Lines.more k (l .lines) (e .resolution) (e .pattern) (l .are)
+          (resolution-agree n given plan same (e .resolution) (e .is-resolution)) (pattern-agree n given plan same (e .pattern) (e .is-pattern));
       text = adds-more (l .text) (e .text);
     }
 
 pub lines-turn : (n g place : ℕ) (list : List Design) (d : Design) {xs ys zs : List ℕ} {at mid end : ℕ} → 1 ≤ place → place - 1 < length list
-    → EntryLines n g (place - 1) list xs ys at mid → EntryLine n g place (getD list (place - 1) d) ys zs mid end
+    → Listable n g (getD list (place - 1) blank) → EntryLines n g (place - 1) list xs ys at mid → EntryLine n g place (getD list (place - 1) d) ys zs mid end
     → EntryLines n g (place + 1 - 1) list xs zs at end
-lines-turn n g place list d {xs} {ys} {zs} {at} {mid} {end} low h l e =
+lines-turn n g place list d {xs} {ys} {zs} {at} {mid} {end} low h a l e =
     let p : place ≡ suc (place - 1) = omega arith in
     let q : suc (place - 1) ≡ place + 1 - 1 = omega arith in
     let f = subst (λ (k : ℕ). EntryLine n g k (getD list (place - 1) blank) ys zs mid end) p
     (subst (λ (c : Design). EntryLine n g place c ys zs mid end) (getD-within list (place - 1) d blank h) e) in
-    subst (λ (k : ℕ). EntryLines n g k list xs zs at end) q (line-more l f)
+    subst (λ (k : ℕ). EntryLines n g k list xs zs at end) q (line-more a l f)
 
 pub lines-all : {n g place count : ℕ} {list : List Design} {xs ys : List ℕ} {at end : ℕ} → EntryLines n g place list xs ys at end → place ≡ count
     → EntryLines n g count list xs ys at end

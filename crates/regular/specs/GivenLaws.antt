@@ -1,12 +1,16 @@
--- One given plan standing for another: what a call answers of the one holds of the other.
-use Prim.Native.Nat.{ℕ, _≤_}
+-- One given plan standing for another: what a call answers of the one holds of the other. And the plan of a record.
+use Prim.Native.Nat.{ℕ, _-_, _≤_}
 use mathlib.Core.Path.{_≡_, subst}
 use mathlib.Core.Logic.{inl, inr, ⊎-elim}
 use native.Mathlib.Omega.{arith}
+use mathlib.Core.List.{List}
 use Rattle.regular.specs.Runs.{Agree}
+use Rattle.regular.specs.Columns.{planOf}
+use Rattle.regular.specs.Designs.{Holds}
+use Rattle.regular.specs.declared.Design.{Design}
 use Rattle.regular.specs.Refusals.{either, Lowest}
 use Rattle.regular.specs.RefusalLaws.{lowest-none, none-lowest}
-use Rattle.regular.specs.Given.{Given}
+use Rattle.regular.specs.Given.{Given, ofDesign}
 
 -- each fault of F has one of H that is no higher
 abbrev pub Covered : (ℕ → Type 0) → (ℕ → Type 0) → Type 0
@@ -63,3 +67,7 @@ lowest-left F H l = lowest-none F (λ k f. none-lowest (either F H) l k (inl f))
 
 pub lowest-right : (F H : ℕ → Type 0) → Lowest (either F H) 0 → Lowest H 0
 lowest-right F H l = lowest-none H (λ k f. none-lowest (either F H) l k (inr f))
+
+-- the plan of a record that holds columns is theirs
+pub holds-plan : {Wanted : List ℕ → Type 0} (n g : ℕ) (d : Design) → Holds n (n - g) Wanted d → Agree (ofDesign n g d .plan) (planOf n (n - g) (d .columns))
+holds-plan n g d h = record { into = λ x p. p; onto = λ x p. p }
