@@ -1,7 +1,10 @@
 //! Measures the comparison of two plans, through the exported function on columns, against the same steps in plain Rust and against
 //! canonical labels by nauty, on the same pairs. Prints a Markdown table: of families of pairs; with the word `entries` of pairs of
-//! every size; with the word `smallest` of the smallest forms of the plans of families.
+//! every size; with the word `smallest` of the smallest forms of the plans of families; with the word `beside` of calls on these and of
+//! catalogues by the library and by another build of it, if that is linked.
 
+#[cfg(feature = "beside")]
+mod beside;
 mod entries;
 mod families;
 mod nauty;
@@ -170,6 +173,8 @@ fn main() {
             println!("|---|---|---|---|---|---|---|---|---|");
             families().iter().filter(|family| family.same).for_each(smallest::print_row);
         }
-        Some(word) => panic!("neither `entries` nor `smallest`: {word}"),
+        #[cfg(feature = "beside")]
+        Some("beside") => beside::print(&families()),
+        Some(word) => panic!("no part {word}"),
     }
 }

@@ -11,7 +11,7 @@ use Rattle.regular.specs.Refusals.{LentFault, either, numbered, Lowest}
 use Rattle.regular.specs.RefusalLaws.{lowest-unique, lowest-numbered, lowest-then, lent-fits}
 use Rattle.regular.specs.Given.{Given}
 use Rattle.regular.specs.GivenLaws.{same-lowest-refl, same-lowest-either, lowest-same-lowest, lowest-moved, lowest-left, lowest-right}
-use Rattle.regular.specs.PlanLists.{recordsFaults, plansFaults}
+use Rattle.regular.specs.PlanLists.{recordsFaults, wantedPlansFaults}
 use Rattle.regular.specs.Smallest.{Equal}
 use Rattle.regular.specs.SmallestAnswers.{FirstPlace, DesignPlace, ColumnsPlace, Formed, ReducesAmong, ReducesInto, intoFaults}
 use Rattle.regular.specs.declared.Design.{Design}
@@ -21,7 +21,9 @@ use Rattle.isomorphism_laws.specs.Renamings.{moved-zero}
 use Rattle.isomorphism_laws.specs.SamePlan.{carries-agree}
 use Rattle.smallest_laws.specs.Growth.{smallest-equal, plan-equal}
 use Rattle.lent.specs.Lends.{Lent}
+use Rattle.lent.specs.Lending.{Lending}
 use Rattle.smallest_of_plan.specs.Reducing.{ReducesBeside, besides}
+use Rattle.smallest_calls.specs.Others.{others, others-lowest}
 
 -- a place shown only if the form is accepted
 pub record Shown (number place at : ℕ) : Type 0 where
@@ -112,16 +114,16 @@ lent-form {n} {m} {p} {c} {names} {out} {filled} {mask} f l =
       start = f .start;
     }
 
-pub formed-into : {n g : ℕ} {p : Given} {list out : List ℕ} {other : ℕ} {ys zs : List ℕ} {form : SmallestAnswer}
-    → Lowest (either (plansFaults n g list) (LentFault n out)) other → ReducesBeside n g p other ys zs form → (filled : List ℕ) (r : FormAnswer)
-    → PlacedInto n list form out filled r
-    → ReducesInto n g p list out filled ys zs r
-formed-into {n} {g} {p} {list} {out} {other} {ys} {zs} {form} low f filled r q =
+-- the list and then the lent list judged, the plan's form beside them, and its columns lent
+pub formed-into : {n g : ℕ} {p : Given} {list out : List ℕ} (listed other : ℕ) {ys zs : List ℕ} {form : SmallestAnswer}
+    → Lowest (wantedPlansFaults n g 3 list) listed → Lending listed n (length out) other → ReducesBeside n g p other ys zs form
+    → (filled : List ℕ) (r : FormAnswer) → PlacedInto n list form out filled r → ReducesInto n g p list out filled ys zs r
+formed-into {n} {g} {p} {list} {out} listed other {ys} {zs} {form} low lent f filled r q =
     let b = f .made in
     let accepted : r .number ≡ 0 → form .number ≡ 0 = λ e. sym (q .number) ∙ e in
     let refused : 0 < r .number → 0 < form .number = λ h. subst (λ (k : ℕ). 0 < k) (q .number) h in
     record {
-      lowest = subst (Lowest (intoFaults n g p list out ys)) (sym (q .number)) (all-lowest f (either (plansFaults n g list) (LentFault n out)) low);
+      lowest = subst (Lowest (intoFaults n g p list out ys)) (sym (q .number)) (all-lowest f (others n g list n out) (others-lowest n g list n out listed other low lent));
       no-mask = λ h. q .mask ∙ b .no-mask (refused h);
       no-place = λ h. q .no-place (refused h);
       untouched = λ h. (q .untouched (refused h), b .untouched (refused h));

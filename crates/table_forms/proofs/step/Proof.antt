@@ -1,9 +1,7 @@
 -- `table_forms::step` meets its contract: the candidate fits, or the factor is basic. Assumes nothing.
-use Prim.Native.Nat.{_+_}
 use native.Mathlib.Omega.{arith}
 use borrow.Author.Tests.{not-true, not-false}
 use borrow.Author.Needs.{needs}
-use lib.ListN.{length}
 use Rattle.table_forms.specs.Turns.{count-small}
 use Rattle.table_forms.specs.Steps.{ended, walk-small, walk-room, walk-below, step-missing, step-below, step-follow, step-full, step-grow}
 use Rattle.table_forms.proofs.step.Statement.{statement}
@@ -19,11 +17,7 @@ tried c = c .before .before .before .before
 candidate-requires : tie.Need-candidate-requires
 candidate-requires c κs =
     let s = c .before .before .before .before .before in
-    let m = s .args .m in
-    let t = s .args .t .now in
-    let f = s .args .f in
-    let w = s .args .w in
-    (s .pre .0, walk-small m t f w (s .pre .3) (s .pre .1) .0, count-small m (length t) (s .pre .1) (s .pre .2) .1, s .pre .3 .latest .within)
+    (s .pre .0, walk-small _ _ _ _ (s .pre .3) (s .pre .1) .0, count-small _ _ (s .pre .1) (s .pre .2) .1, s .pre .3 .latest .within)
 
 refuse-requires : tie.Need-refuse-requires
 refuse-requires c κs = search needs
@@ -31,36 +25,24 @@ refuse-requires c κs = search needs
 returns : tie.Need-returns
 returns c =
     let o = c .before .before .before in
-    let s = start o in
-    let m = s .args .m in
-    let t = s .args .t .now in
-    let f = s .args .f in
-    let w = s .args .w in
-    let k = o .candidate in
-    ended m t (f + 1) (c .refuse .result) (c .refuse .ensures)
-    (step-missing m t f w (s .pre .3) (k .result .column) (k .result .ok) (k .ensures) (not-true _ (c .before .if1 .taken)))
+    ended _ _ _ (c .refuse .result) (c .refuse .ensures)
+    (step-missing _ _ _ _ (start o .pre .3) _ _ (o .candidate .ensures) (not-true _ (c .before .if1 .taken)))
 
 fits-requires : tie.Need-fits-requires
 fits-requires c κs =
     let s = start (c .before .before .before) in
-    (s .pre .0, count-small (s .args .m) (length (s .args .t .now)) (s .pre .1) (s .pre .2) .1)
+    (s .pre .0, count-small _ _ (s .pre .1) (s .pre .2) .1)
 
 follow-requires : tie.Need-follow-requires
 follow-requires c κs =
     let d = tried (c .before) in
-    let s = start d in
-    let m = s .args .m in
-    let t = s .args .t .now in
-    let f = s .args .f in
-    let w = s .args .w in
-    let k = d .candidate in (
+    let s = start d in (
       s .pre .0,
       omega (
         arith,
-        step-below m t f w (s .pre .3) (k .result .column) (k .result .ok) (k .ensures)
-            (not-false _ (c .before .before .before .if1 .left)),
+        step-below _ _ _ _ (s .pre .3) _ _ (d .candidate .ensures) (not-false _ (c .before .before .before .if1 .left)),
         s .pre .3 .half,
-        walk-small m t f w (s .pre .3) (s .pre .1) .1,
+        walk-small _ _ _ _ (s .pre .3) (s .pre .1) .1,
       ),
     )
 
@@ -69,12 +51,7 @@ returns-2 c =
     let o = c .before .before in
     let d = tried o in
     let s = start d in
-    let m = s .args .m in
-    let t = s .args .t .now in
-    let f = s .args .f in
-    let w = s .args .w in
-    let k = d .candidate in
-    step-follow m t f w (s .pre .3) (k .result .column) (k .result .ok) (k .ensures) (not-false _ (c .before .before .before .before .if1 .left))
+    step-follow _ _ _ _ (s .pre .3) _ _ (d .candidate .ensures) (not-false _ (o .before .before .if1 .left))
     (o .fits2 .result) (o .fits2 .ensures) (c .follow .result) (c .before .if2 .taken) (s .pre .0) (c .follow .ensures)
 
 refuse-requires-2 : tie.Need-refuse-requires-2
@@ -84,38 +61,23 @@ returns-3 : tie.Need-returns-3
 returns-3 c =
     let o = c .before .before .before in
     let d = tried o in
-    let s = start d in
-    let m = s .args .m in
-    let t = s .args .t .now in
-    let f = s .args .f in
-    let w = s .args .w in
-    let k = d .candidate in
-    ended m t (f + 1) (c .refuse2 .result) (c .refuse2 .ensures)
-    (step-full m t f w (s .pre .3) (k .result .column) (k .result .ok) (k .ensures) (not-false _ (c .before .before .before .before .before .if1 .left))
+    ended _ _ _ (c .refuse2 .result) (c .refuse2 .ensures)
+    (step-full _ _ _ _ (start d .pre .3) _ _ (d .candidate .ensures) (not-false _ (o .before .before .if1 .left))
     (o .fits2 .result) (o .fits2 .ensures) (c .before .before .if2 .left) (c .before .if3 .taken))
 
 grow-requires : tie.Need-grow-requires
 grow-requires c κs =
     let s = start (tried (c .before .before)) in
-    let m = s .args .m in
-    let t = s .args .t .now in
-    let f = s .args .f in
-    let w = s .args .w in
-    let room = walk-room m t f w (s .pre .3) (s .pre .1) (c .if3 .left) in
-    let count = count-small m (length t) (s .pre .1) (s .pre .2) in
-    ((s .pre .0, room .0, room .1), (count .0, count .1, walk-below m t f w (s .pre .3)))
+    let room = walk-room _ _ _ _ (s .pre .3) (s .pre .1) (c .if3 .left) in
+    let count = count-small _ _ (s .pre .1) (s .pre .2) in
+    ((s .pre .0, room .0, room .1), (count .0, count .1, walk-below _ _ _ _ (s .pre .3)))
 
 returns-4 : tie.Need-returns-4
 returns-4 c =
     let o = c .before .before .before in
     let d = tried o in
     let s = start d in
-    let m = s .args .m in
-    let t = s .args .t .now in
-    let f = s .args .f in
-    let w = s .args .w in
-    let k = d .candidate in
-    step-grow m t f w (s .pre .3) (k .result .column) (k .result .ok) (k .ensures) (not-false _ (c .before .before .before .before .before .if1 .left))
+    step-grow _ _ _ _ (s .pre .3) _ _ (d .candidate .ensures) (not-false _ (o .before .before .if1 .left))
     (o .fits2 .result) (o .fits2 .ensures) (c .grow .result) (c .before .before .if2 .left) (s .pre .0) (c .before .if3 .left) (c .grow .ensures)
 
 pub step-spec : {M : Type 1} → statement M

@@ -1,0 +1,155 @@
+//! The library beside another build of it: the same calls by both in turn, on families of plans and on catalogues. Each is linked twice. What
+//! one copy takes more than the other comes from its place in memory and from the machine alone.
+
+use crate::families::Family;
+use crate::mean;
+use planner::PLAN_SAME;
+use std::hint::black_box;
+use std::time::Instant;
+
+/// Passes over the calls of a row, the copies in turn in each: a call counts at its fastest.
+const PASSES: usize = 60;
+
+/// The least passes for a catalogue: more if they fit into half a second each.
+const CATALOGUE_PASSES: usize = 15;
+const CATALOGUE_TIME: f64 = 5e5;
+
+/// N, G and R of the catalogues that are measured.
+const CATALOGUES: [(usize, usize, usize); 7] = [(9, 4, 3), (10, 5, 3), (12, 6, 3), (14, 8, 3), (16, 10, 3), (14, 7, 4), (16, 9, 4)];
+
+/// The most entries of these.
+const MOST_ENTRIES: usize = 1 << 15;
+
+/// What a call answers: its first byte is the refusal's number, 0 if accepted, in every version.
+#[repr(C)]
+pub struct Answer {
+    number: u8,
+    count: usize,
+}
+
+/// A build of the library, by the names of its functions.
+macro_rules! build {
+    ($name:ident, $compare:literal, $smallest:literal, $catalogue:literal) => {
+        mod $name {
+            use super::Answer;
+            extern "C" {
+                #[link_name = $compare]
+                pub fn compare(n: usize, g: usize, a: *const u8, len: usize, b: *const u8, also: usize, w: *mut u8, names: usize) -> u32;
+                #[link_name = $smallest]
+                pub fn smallest(
+                    n: usize,
+                    g: usize,
+                    a: *const u8,
+                    len: usize,
+                    list: *const u8,
+                    also: usize,
+                    form: *mut u8,
+                    places: usize,
+                    w: *mut u8,
+                    names: usize,
+                ) -> Answer;
+                #[link_name = $catalogue]
+                pub fn catalogue(n: usize, g: usize, r: usize, list: *mut u8, len: usize) -> Answer;
+            }
+            pub const BUILD: super::Build = super::Build { compare, smallest, catalogue };
+        }
+    };
+}
+
+build!(ours, "plan_compare_columns", "plan_smallest_of_columns", "plan_catalogue");
+build!(ours_again, "again_plan_compare_columns", "again_plan_smallest_of_columns", "again_plan_catalogue");
+build!(other, "other_plan_compare_columns", "other_plan_smallest_of_columns", "other_plan_catalogue");
+build!(other_again, "other_again_plan_compare_columns", "other_again_plan_smallest_of_columns", "other_again_plan_catalogue");
+
+struct Build {
+    compare: unsafe extern "C" fn(usize, usize, *const u8, usize, *const u8, usize, *mut u8, usize) -> u32,
+    smallest: unsafe extern "C" fn(usize, usize, *const u8, usize, *const u8, usize, *mut u8, usize, *mut u8, usize) -> Answer,
+    catalogue: unsafe extern "C" fn(usize, usize, usize, *mut u8, usize) -> Answer,
+}
+
+const ALL: [Build; 4] = [ours::BUILD, other::BUILD, ours_again::BUILD, other_again::BUILD];
+
+impl Build {
+    fn same(&self, n: usize, g: usize, a: &[u8], b: &[u8]) -> bool {
+        let mut names = [0; 16];
+        // SAFETY: the lists are valid for the counts given with them, the lent one overlaps no other, and the call keeps none.
+        unsafe { (self.compare)(n, g, a.as_ptr(), a.len(), b.as_ptr(), b.len(), names.as_mut_ptr(), names.len()) == PLAN_SAME }
+    }
+
+    fn smallest(&self, n: usize, g: usize, a: &[u8]) -> [u8; 16] {
+        let (mut form, mut names, list) = ([0; 16], [0; 16], []);
+        let (places, room) = (form.len(), names.len());
+        // SAFETY: as above.
+        let answer =
+            unsafe { (self.smallest)(n, g, a.as_ptr(), a.len(), list.as_ptr(), 0, form.as_mut_ptr(), places, names.as_mut_ptr(), room) };
+        assert_eq!(answer.number, 0, "the plan is accepted");
+        form
+    }
+
+    fn catalogue(&self, (n, g, r): (usize, usize, usize), list: &mut [u8]) -> usize {
+        // SAFETY: as above.
+        let answer = unsafe { (self.catalogue)(n, g, r, list.as_mut_ptr(), list.len()) };
+        assert_eq!(answer.number, 0, "the size is accepted and has room");
+        answer.count
+    }
+}
+
+/// Microseconds a call, each at its fastest, by each copy. They begin in turn.
+fn measure(passes: usize, calls: usize, mut run: impl FnMut(&Build, usize)) -> [f64; ALL.len()] {
+    let mut fastest = ALL.map(|_| vec![f64::INFINITY; calls]);
+    for turn in 0..ALL.len() * passes {
+        let which = (turn + turn / ALL.len()) % ALL.len();
+        for (call, fastest) in fastest[which].iter_mut().enumerate() {
+            let start = Instant::now();
+            run(&ALL[which], call);
+            *fastest = fastest.min(start.elapsed().as_secs_f64() * 1e6);
+        }
+    }
+    fastest.map(|times| mean(&times))
+}
+
+/// How many times the faster one's time the slower one takes.
+fn spread(one: f64, again: f64) -> f64 {
+    one.max(again) / one.min(again)
+}
+
+fn print_row(call: &str, of: &str, number: usize, [ours, other, ours_again, other_again]: [f64; ALL.len()]) {
+    println!(
+        "| {call} | {of} | {number} | {:.2} | {:.2} | {:.3} | {:.3} | {:.3} |",
+        (ours + ours_again) / 2.0,
+        (other + other_again) / 2.0,
+        (ours + ours_again) / (other + other_again),
+        spread(ours, ours_again),
+        spread(other, other_again),
+    );
+}
+
+/// The comparison of the pairs, then the smallest forms of their second plans.
+fn print_family(family: &Family) {
+    let Family { kind, n, m, same, pairs } = family;
+    let (g, of) = (n - m, format!("{kind}, N {n}, M {m}"));
+    assert!(ALL.iter().all(|build| pairs.iter().all(|(a, b)| build.same(*n, g, a, b) == *same)), "{of}");
+    let times = measure(PASSES, pairs.len(), |build, i| {
+        black_box(build.same(*n, g, black_box(&pairs[i].0), black_box(&pairs[i].1)));
+    });
+    print_row("comparison", &of, pairs.len(), times);
+    let times = measure(PASSES, pairs.len(), |build, i| {
+        black_box(build.smallest(*n, g, black_box(&pairs[i].1)));
+    });
+    print_row("smallest form", &of, pairs.len(), times);
+}
+
+fn print_catalogue(size: (usize, usize, usize), list: &mut [u8]) {
+    let count = ALL[0].catalogue(size, list);
+    let mut run = |build: &Build, _| assert_eq!(black_box(build.catalogue(size, list)), count);
+    let passes = (CATALOGUE_TIME / measure(1, 1, &mut run)[0]) as usize;
+    print_row("catalogue", &format!("{} {} {}", size.0, size.1, size.2), count, measure(passes.max(CATALOGUE_PASSES), 1, run));
+}
+
+pub fn print(families: &[Family]) {
+    println!("| call | of | number | library | other build | library / other | library's copies | other's copies |");
+    println!("|---|---|---|---|---|---|---|---|");
+    families.iter().for_each(print_family);
+    let mut list = vec![0; 16 * MOST_ENTRIES];
+    CATALOGUES.into_iter().for_each(|size| print_catalogue(size, &mut list));
+}
