@@ -123,7 +123,8 @@ formed-into {n} {g} {p} {list} {out} listed other {ys} {zs} {form} low lent f fi
     let accepted : r .number ≡ 0 → form .number ≡ 0 = λ e. sym (q .number) ∙ e in
     let refused : 0 < r .number → 0 < form .number = λ h. subst (λ (k : ℕ). 0 < k) (q .number) h in
     record {
-      lowest = subst (Lowest (intoFaults n g p list out ys)) (sym (q .number)) (all-lowest f (others n g list n out) (others-lowest n g list n out listed other low lent));
+      lowest = subst (Lowest (intoFaults n g p list out ys)) (sym (q .number))
+          (all-lowest f (others n g list n out) (others-lowest n g list n out listed other low lent));
       no-mask = λ h. q .mask ∙ b .no-mask (refused h);
       no-place = λ h. q .no-place (refused h);
       untouched = λ h. (q .untouched (refused h), b .untouched (refused h));

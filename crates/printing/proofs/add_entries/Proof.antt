@@ -73,7 +73,7 @@ loop-again c =
       omega (arith, e .1, l .inv),
       l .inv .6,
       lines-turn (a .n) (a .g) (l .place) (a .t4) _ (l .inv .0) (omega (arith, t, l .inv)) (l .inv .4 (l .place - 1) (omega (arith, t, l .inv)))
-      (l .inv .7) (e .0),
+          (l .inv .7) (e .0),
     )
 
 same-length : tie.Need-same-length Inv-loop μ-loop

@@ -44,7 +44,8 @@ returns c =
     let l = judged q in
     let k = l .before .plans-refusal in
     let p = w .placed-into in
-    formed-into (k .result) (l .lending .result) (k .ensures) (l .lending .ensures) (q .form-of-columns .ensures) (p .last .1 .1 .1 .0) (p .result) (p .ensures)
+    formed-into (k .result) (l .lending .result) (k .ensures) (l .lending .ensures) (q .form-of-columns .ensures)
+    (p .last .1 .1 .1 .0) (p .result) (p .ensures)
 
 pub smallest-of-columns-spec : {M : Type 1} → statement M
 smallest-of-columns-spec =
