@@ -1,8 +1,9 @@
 # Reads the log of a must-fail edit. A line for each function that was refused and for each law that an error names, its fields between tabs:
 #   name, account, need, quote
-# account: 'own' if a fact of it no longer holds ('law' for a law); 'callee' if it calls a function that is not proved; 'place' if its proof file lost a place, so
-# that the proof rather than a fact fails, or a law cannot be read. In a proof by hand every step of the walk names the code that it walks: an error in a step is
-# a lost place whatever it says, and only an error in a law beside the walk is one of a fact.
+# account: 'own' if a fact of it no longer holds ('law' for a law); 'callee' if nothing of its own fails and it calls a function that is not proved; 'place' if
+# its proof file lost a place, so that the proof rather than a fact fails, or a law cannot be read. A proof rests on the contracts of the functions called,
+# not on their code: what fails in it is its own, also where a function that it calls is refused too. In a proof by hand every step of the walk names the code
+# that it walks: an error in a step is a lost place whatever it says, and only an error in a law beside the walk is one of a fact.
 # need: what the first error in its proof file names. quote: what that error says, in its own words, shortened:
 #   - of two types, sides or indices that differ, the statement of where they do, as computed if the error has that, else as printed;
 #   - of numbers at which a need fails, the first three; of a goal that no proof was found of, that statement;
@@ -165,14 +166,13 @@ function take_error(    place, need, text, name, names, k) {
     bare = name
     sub(/.*::/, "", bare)
     account = "own"
-    if ($0 ~ /it calls/) account = "callee"
-    else if ($0 ~ /: no proof: /) {
-        if ($0 !~ /does not close/) account = "place"
+    if ($0 ~ /: no proof: /) {
+        if ($0 !~ /does not close/) account = $0 ~ /it calls/ ? "callee" : "place"
         first[bare] = upto(after($0, "does not close `"), "`")
         sub(/`$/, "", first[bare])
         why[bare] = quote(note)
     }
-    else if (!(bare in first)) account = "callee"            # it calls in a cycle, and another of the cycle is not proved
+    else if (!(bare in first)) account = "callee"            # nothing of its own fails: a function that it calls, or another of its cycle, is not proved
     else if (bare in lost) account = "place"
     print name "\t" account "\t" first[bare] "\t" why[bare]
     note = ""

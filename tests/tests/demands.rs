@@ -133,6 +133,7 @@ fn every_name_on_the_page_of_demands_stands_in_the_repository() {
     let sources = files("specs", "antt").into_iter().chain(files("src", "rt"));
     let texts: Vec<String> = sources.map(|path| read(&path)).collect();
     let known: BTreeSet<&str> = texts.iter().flat_map(|text| text.lines()).filter_map(declared).collect();
+    let contracts = read(&root().join("docs/CONTRACTS.md"));
     let mut missing = Vec::new();
     let mut found = 0;
     for row in rows(&page, 5) {
@@ -142,7 +143,9 @@ fn every_name_on_the_page_of_demands_stands_in_the_repository() {
         }
         for name in names(&row[3]) {
             let (krate, edit) = name.split_once('/').unwrap_or_else(|| panic!("{name} is not crate/edit"));
+            let (edit, made) = edit.split_once(':').map_or((edit, None), |(edit, function)| (edit, Some(function)));
             see(root().join(format!("crates/{krate}/must-fail/{edit}.edit")).is_file(), name);
+            see(made.is_none_or(|function| contracts.contains(&format!("| `{krate}/{edit}` | `{function}` |"))), name);
         }
         for name in names(&row[4]) {
             let (file, test) = name.split_once("::").unwrap_or_else(|| panic!("{name} is not file::test"));
