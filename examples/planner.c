@@ -16,14 +16,15 @@ static const char usage[] =
     "planner catalogue N G R               every plan of a size: columns, words, pattern\n"
     "planner runs N G R PLACE              the run table of an entry: + is high, - low\n"
     "planner book N G R FILE               the catalogue as a book, in a file\n"
+    "planner read FILE                     what a book has, or why it is refused\n"
     "N factors, G generators, no word of fewer than R letters. Lists as 1,2,4,7.\n"
     "Exit status: 0, or 1 for plans that are different, or 2 if refused.\n";
 
 /* The exit statuses. */
 enum { DONE = 0, DIFFERENT = 1, REFUSED = 2 };
 
-/* The entries that our list for a catalogue has room for. */
-enum { ROOM = 10000 };
+/* The entries that our list has room for: as many as a book may have. */
+enum { ROOM = 65535 };
 
 /* The factors' letters: I is left out. */
 static const char letters[] = "ABCDEFGHJKLMNOPQ";
@@ -93,6 +94,9 @@ static int refuse(unsigned number)
         [PLAN_REFUSED_SHORT_WORD] = "the plan has a word of fewer than three letters",
         [PLAN_REFUSED_PLACES] = "a lent list is too short",
         [PLAN_REFUSED_ROOM] = "the catalogue has more entries than there is room for",
+        [PLAN_REFUSED_CUT_OFF] = "the book is cut off, or has bytes left over after its last entry",
+        [PLAN_REFUSED_KIND] = "a record of the book is not of the kind that is expected there",
+        [PLAN_REFUSED_UNTRUE] = "an entry of the book is not in the catalogue of its N, G and R, is out of order, or has a wrong pattern",
     };
     fprintf(stderr, "refused by %u: %s\n", number, reasons[number]);
     return REFUSED;
@@ -192,12 +196,17 @@ static void print_entry(size_t n, size_t g, size_t place, const uint8_t *columns
     printf("\n");
 }
 
+static void print_entries(size_t n, size_t g, size_t count)
+{
+    for (size_t i = 0; i < count; i++) {
+        print_entry(n, g, i + 1, entries + i * n);
+    }
+}
+
 static int list_catalogue(size_t n, size_t g, size_t r)
 {
     struct plan_entries found = catalogue(n, g, r);
-    for (size_t i = 0; i < found.count; i++) {
-        print_entry(n, g, i + 1, entries + i * n);
-    }
+    print_entries(n, g, found.count);
     return found.number == PLAN_ACCEPTED ? DONE : refuse(found.number);
 }
 
@@ -223,9 +232,13 @@ static int print_runs(size_t n, size_t g, size_t r, size_t place)
     return DONE;
 }
 
+/* ---- books */
+
+/* The bytes of a book: as many as the longest has, and one more, so that a longer file is refused for what is left over. */
+static uint8_t book[PLAN_BOOK_HEAD + ROOM * PLAN_BOOK_ENTRY(PLAN_FACTORS) + 1];
+
 static int write_book(size_t n, size_t g, size_t r, const char *path)
 {
-    static uint8_t book[PLAN_BOOK_HEAD + ROOM * PLAN_BOOK_ENTRY(PLAN_FACTORS)];
     struct plan_entries found = catalogue(n, g, r);
     if (found.number != PLAN_ACCEPTED) {
         return refuse(found.number);
@@ -240,6 +253,23 @@ static int write_book(size_t n, size_t g, size_t r, const char *path)
         return REFUSED;
     }
     printf("%zu entries, %zu bytes\n", found.count, written.count);
+    return DONE;
+}
+
+static int read_book(const char *path)
+{
+    FILE *file = fopen(path, "rb");
+    size_t length = file == NULL ? 0 : fread(book, 1, sizeof book, file);
+    if (file == NULL || ferror(file) || fclose(file) != 0) {
+        perror(path);
+        return REFUSED;
+    }
+    struct plan_book found = plan_read_book(book, length, entries, sizeof entries);
+    if (found.number != PLAN_ACCEPTED) {
+        return refuse(found.number);
+    }
+    printf("N %u, G %u, R %u, %zu entries\n", found.factors, found.generators, found.resolution, found.count);
+    print_entries(found.factors, found.generators, found.count);
     return DONE;
 }
 
@@ -293,6 +323,9 @@ int main(int argc, char **argv)
     }
     if (is("book", 4, argc, argv)) {
         return write_book(parse_number(argv[2]), parse_number(argv[3]), parse_number(argv[4]), argv[5]);
+    }
+    if (is("read", 1, argc, argv)) {
+        return read_book(argv[2]);
     }
     fputs(usage, stderr);
     return REFUSED;

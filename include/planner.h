@@ -25,14 +25,15 @@
  * witness list stays untouched. A refused call leaves every lent list untouched, except by PLAN_REFUSED_ROOM of a catalogue. A lent list must
  * not overlap another list of the call.
  *
- * ANSWERS. A call answers PLAN_ACCEPTED, or else the lowest number below that applies, over all arguments. The calls that answer more say so. */
+ * ANSWERS. A call answers PLAN_ACCEPTED, or else the lowest number below that applies, over all arguments. The calls that answer more say so.
+ * plan_read_book alone has an order of its own: it goes through the book from the first byte, and the first check that fails answers. */
 #ifndef PLANNER_H
 #define PLANNER_H
 
 #include <stddef.h>
 #include <stdint.h>
 
-#define PLANNER_VERSION "0.2.0"
+#define PLANNER_VERSION "0.3.0"
 
 /* The most factors, basic factors and runs that a plan may have. So many places are enough for any list that a call on one or two plans fills.
  * Distance counts need one more than PLAN_FACTORS. Catalogues, books and several plans need more. */
@@ -46,7 +47,7 @@
 #define PLAN_REFUSED_FACTORS 1
 /* G is at least N, or N - G is above 7. */
 #define PLAN_REFUSED_GENERATORS 2
-/* R is outside 3 to 16. Only plan_catalogue and plan_write_book. */
+/* R is outside 3 to 16. Only plan_catalogue, plan_write_book and plan_read_book. */
 #define PLAN_REFUSED_RESOLUTION 3
 /* A list does not have G words, N columns (several plans: a multiple of N) or 2^M runs; or a book is to have more than 65,535 plans. */
 #define PLAN_REFUSED_COUNT 4
@@ -61,6 +62,13 @@
 #define PLAN_REFUSED_PLACES 8
 /* The catalogue has more entries than the lent list has room for. Only plan_catalogue. */
 #define PLAN_REFUSED_ROOM 9
+/* A record of the book is cut off, or bytes are left over after the last entry. This and the next two are of plan_read_book only. */
+#define PLAN_REFUSED_CUT_OFF 10
+/* A record of the book is of a kind that is unknown, or not the kind expected there. */
+#define PLAN_REFUSED_KIND 11
+/* The columns of an entry are not a smallest form of N and G without a word of fewer than R letters, or they do not come after those of the
+ * entry before; or a count of its pattern is not that of its plan. */
+#define PLAN_REFUSED_UNTRUE 12
 
 #ifdef __cplusplus
 extern "C" {
@@ -211,6 +219,34 @@ struct plan_bytes {
 };
 
 struct plan_bytes plan_write_book(size_t n, size_t g, size_t r, const uint8_t *plans, size_t plan_count, uint8_t *book, size_t places);
+
+/* Reads a book of smallest forms, such as that of a catalogue. It is accepted if each entry is a smallest form of the header's N and G whose
+ * words all have at least R letters, each comes after the one before in dictionary order, each pattern is that of its plan, and nothing follows
+ * the last. That the catalogue is complete is not said. The lent list takes the columns of the entries one after another, N bytes each, and
+ * needs count times N places. The answer is
+ *   number      PLAN_ACCEPTED or the refusal. A refused call answers 0 for all the rest
+ *   factors     N
+ *   generators  G
+ *   resolution  R
+ *   count       how many entries the list holds
+ * plan_write_book gives the same bytes again for this list with this N, G and R. The checks come in this order, and the first that fails
+ * answers, whatever its number:
+ *   the header        PLAN_REFUSED_KIND if the first byte is not 0x01, PLAN_REFUSED_CUT_OFF if there are fewer than PLAN_BOOK_HEAD bytes,
+ *                     then PLAN_REFUSED_FACTORS, PLAN_REFUSED_GENERATORS and PLAN_REFUSED_RESOLUTION for its N, G and R
+ *   the lent list     PLAN_REFUSED_PLACES if it is too short for the count of the header
+ *   each entry        its columns, then its pattern: PLAN_REFUSED_KIND if the kind is another, PLAN_REFUSED_CUT_OFF if the body is cut off,
+ *                     PLAN_REFUSED_UNTRUE if it is not true
+ *   after the last    PLAN_REFUSED_CUT_OFF if any byte is left over
+ * A kind byte that is missing, also the first of an empty book, is PLAN_REFUSED_CUT_OFF. */
+struct plan_book {
+    uint8_t number;
+    uint8_t factors;
+    uint8_t generators;
+    uint8_t resolution;
+    size_t count;
+};
+
+struct plan_book plan_read_book(const uint8_t *book, size_t length, uint8_t *columns, size_t places);
 
 #ifdef __cplusplus
 }

@@ -20,8 +20,10 @@ static const uint16_t two_words[] = {7, 25};
 static const uint16_t past_word[] = {8};
 static const uint16_t repeated_word[] = {7, 7};
 static const uint16_t short_word[] = {3};
+static const uint8_t other_header[] = {0x02};
+static const uint8_t falling_columns[] = {0x01, 2, 0, 3, 1, 0, 0x22, 2, 1, 0x42};
 
-/* The examples of the table of refusals, and a call that is accepted. */
+/* A call that is accepted, the examples of the table of refusals, and books that are refused. */
 static void print_refusals(void)
 {
     print("PLAN_ACCEPTED", PLAN_ACCEPTED, plan_columns_of_words(3, 1, abc, 1, columns, 3));
@@ -34,6 +36,9 @@ static void print_refusals(void)
     print("PLAN_REFUSED_SHORT_WORD", PLAN_REFUSED_SHORT_WORD, plan_columns_of_words(3, 1, short_word, 1, columns, 3));
     print("PLAN_REFUSED_PLACES", PLAN_REFUSED_PLACES, plan_columns_of_words(5, 1, abc, 1, columns, 4));
     print("PLAN_REFUSED_ROOM", PLAN_REFUSED_ROOM, plan_catalogue(5, 1, 3, columns, 10).number);
+    print("PLAN_REFUSED_CUT_OFF", PLAN_REFUSED_CUT_OFF, plan_read_book(NULL, 0, columns, 2).number);
+    print("PLAN_REFUSED_KIND", PLAN_REFUSED_KIND, plan_read_book(other_header, 1, columns, 2).number);
+    print("PLAN_REFUSED_UNTRUE", PLAN_REFUSED_UNTRUE, plan_read_book(falling_columns, COUNT(falling_columns), columns, 2).number);
 }
 
 /* Far more factors than any size has. */

@@ -13,6 +13,10 @@ static const uint16_t words[] = {7};
 static const uint16_t runs[] = {0, 5, 6, 3};
 static const uint8_t names[] = {0, 1, 2};
 
+/* The book of one plan, and of none. */
+static const uint8_t book[] = {0x01, 3, 1, 3, 1, 0, 0x23, 1, 2, 3, 0x43, 1, 0};
+static const uint8_t empty_book[] = {0x01, 3, 1, 3, 0, 0};
+
 /* A value that no result has, so that an untouched place is seen. */
 enum { UNTOUCHED = 99 };
 
@@ -29,11 +33,13 @@ static void clear(void)
     }
 }
 
-/* What a call came to: its answer, its mask and its place or count, 0 where it has none, and the lent lists after it. */
+/* What a call came to: its answer, its mask, its place or count, and the N, G and R of a book, 0 where it has none; and the lent lists after
+ * it. */
 struct outcome {
     uint32_t number;
     uint16_t mask;
     size_t count;
+    uint8_t sizes[3];
     uint8_t bytes[PLAN_RUNS];
     uint16_t shorts[PLAN_RUNS];
     uint8_t more_bytes[PLAN_RUNS];
@@ -45,6 +51,7 @@ static struct outcome outcome(uint32_t number, uint16_t mask, size_t count)
     found.number = number;
     found.mask = mask;
     found.count = count;
+    memset(found.sizes, 0, sizeof found.sizes);
     memcpy(found.bytes, bytes, sizeof bytes);
     memcpy(found.shorts, shorts, sizeof shorts);
     memcpy(found.more_bytes, more_bytes, sizeof more_bytes);
@@ -71,11 +78,20 @@ static struct outcome of_book(struct plan_bytes answer)
     return outcome(answer.number, 0, answer.count);
 }
 
+static struct outcome of_reading(struct plan_book answer)
+{
+    struct outcome found = outcome(answer.number, 0, answer.count);
+    found.sizes[0] = answer.factors;
+    found.sizes[1] = answer.generators;
+    found.sizes[2] = answer.resolution;
+    return found;
+}
+
 static int same(const struct outcome *first, const struct outcome *second)
 {
     return first->number == second->number && first->mask == second->mask && first->count == second->count &&
-           memcmp(first->bytes, second->bytes, sizeof bytes) == 0 && memcmp(first->shorts, second->shorts, sizeof shorts) == 0 &&
-           memcmp(first->more_bytes, second->more_bytes, sizeof more_bytes) == 0;
+           memcmp(first->sizes, second->sizes, sizeof first->sizes) == 0 && memcmp(first->bytes, second->bytes, sizeof bytes) == 0 &&
+           memcmp(first->shorts, second->shorts, sizeof shorts) == 0 && memcmp(first->more_bytes, second->more_bytes, sizeof more_bytes) == 0;
 }
 
 /* What the call filled of the lent lists: of names, which are the library's choice, how many. */
@@ -101,6 +117,9 @@ static void print(const char *call, const struct outcome *with_null, const struc
     print_filled(with_null);
     if (with_null->count > 0) {
         printf(", count %lu", (unsigned long)with_null->count);
+    }
+    if (with_null->sizes[0] > 0) {
+        printf(", sizes %u %u %u", with_null->sizes[0], with_null->sizes[1], with_null->sizes[2]);
     }
     printf("%s\n", same(with_null, with_list) ? "" : ", not the same");
 }
@@ -211,7 +230,7 @@ static void print_smallest(void)
         plan_smallest_of_plans(3, 1, columns, 0, bytes, 0, more_bytes, 0));
 }
 
-static void print_catalogue_and_book(void)
+static void print_catalogue_and_books(void)
 {
     TRY("plan_catalogue, no room", of_entries, plan_catalogue(3, 1, 3, NULL, 0), plan_catalogue(3, 1, 3, bytes, 0));
     TRY("plan_write_book, no plans", of_book, plan_write_book(3, 1, 3, NULL, 0, bytes, PLAN_RUNS),
@@ -219,6 +238,11 @@ static void print_catalogue_and_book(void)
     TRY("plan_write_book, no places", of_book, plan_write_book(3, 1, 3, columns, 3, NULL, 0),
         plan_write_book(3, 1, 3, columns, 3, bytes, 0));
     TRY("plan_write_book, neither", of_book, plan_write_book(3, 1, 3, NULL, 0, NULL, 0), plan_write_book(3, 1, 3, columns, 0, bytes, 0));
+    TRY("plan_read_book, no book", of_reading, plan_read_book(NULL, 0, bytes, PLAN_RUNS), plan_read_book(book, 0, bytes, PLAN_RUNS));
+    TRY("plan_read_book, no places", of_reading, plan_read_book(book, sizeof book, NULL, 0), plan_read_book(book, sizeof book, bytes, 0));
+    TRY("plan_read_book, neither", of_reading, plan_read_book(NULL, 0, NULL, 0), plan_read_book(book, 0, bytes, 0));
+    TRY("a book without entries", of_reading, plan_read_book(empty_book, sizeof empty_book, NULL, 0),
+        plan_read_book(empty_book, sizeof empty_book, bytes, 0));
 }
 
 int main(void)
@@ -227,6 +251,6 @@ int main(void)
     print_accepted();
     print_two_plans();
     print_smallest();
-    print_catalogue_and_book();
+    print_catalogue_and_books();
     return 0;
 }

@@ -1,6 +1,6 @@
 //! The exported functions, each once: its name, what it takes and what it answers.
 
-use planner::{Bytes, Entries, FormAnswer};
+use planner::{Book, Bytes, Entries, FormAnswer};
 use std::fmt::Debug;
 
 /// Hands every function to a macro: its sizes; the lists that it reads; the lists that it fills; its mask, if it takes one; its answer.
@@ -31,6 +31,7 @@ macro_rules! exported {
             plan_smallest_of_plans(n, g; plans: u8; forms: u8, witnesses: u8) -> u8;
             plan_catalogue(n, g, r;; columns: u8) -> Entries;
             plan_write_book(n, g, r; plans: u8; book: u8) -> Bytes;
+            plan_read_book(; book: u8; columns: u8) -> Book;
         }
     };
 }
@@ -44,7 +45,8 @@ macro_rules! names {
 }
 exported!(names);
 
-/// What a function answers, as three numbers: the answer itself or its refusal's number; a mask; a place or a count. 0 where it has none.
+/// What a function answers, as three numbers: the answer itself or its refusal's number; a mask, or N, G and R in a byte each; a place or a
+/// count. 0 where it has none.
 pub trait Answer: Copy {
     fn numbers(self) -> [u64; 3];
 }
@@ -76,6 +78,13 @@ impl Answer for Entries {
 impl Answer for Bytes {
     fn numbers(self) -> [u64; 3] {
         [self.number.into(), 0, self.count as u64]
+    }
+}
+
+impl Answer for Book {
+    fn numbers(self) -> [u64; 3] {
+        let sizes = [self.factors, self.generators, self.resolution, 0];
+        [self.number.into(), u32::from_le_bytes(sizes).into(), self.count as u64]
     }
 }
 

@@ -5,7 +5,7 @@ use crate::exported::exported;
 use crate::memory::{Lent, Read};
 use crate::recorded::Call;
 use crate::records::timed;
-use planner::{Bytes, Entries, FormAnswer};
+use planner::{Book, Bytes, Entries, FormAnswer};
 
 /// Declares each function of the crate `planner` under its name.
 macro_rules! guarded {

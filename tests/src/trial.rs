@@ -1,12 +1,15 @@
 //! Calls of every exported function, on inputs good and damaged, as many as wanted, each held against the checking program.
 
+use crate::book_samples::{drawn, some_of};
 use crate::books::{self, joined};
 use crate::calls::Given;
 use crate::catalogues::{compare_catalogue, compare_refused, every_smallest_form, refusal, with_resolution, Entries};
 use crate::check::book::book;
 use crate::check::plan::Form;
+use crate::check::reading::judge;
 use crate::check::refusals::{accepted, lowest};
 use crate::check::renamings::is_witness;
+use crate::check::smallest::smallest;
 use crate::compare::{around, compare, compare_ranking, Lending, Tally};
 use crate::compare_pairs::{compare_any, Counts};
 use crate::forms::{compare_plans, compare_sought, form_of, Sought};
@@ -14,6 +17,7 @@ use crate::hard::{alike_pairs, odd_weight, symmetric, Columns};
 use crate::known::{disguised, in_other_basics};
 use crate::pairs::{call_check, Pair, Verdict};
 use crate::random::Random;
+use crate::reading::compare_judged;
 use crate::records::{keep, made, slowest};
 use crate::samples::{columns, damaged, given, sample, short_sample, Sample};
 use std::collections::BTreeMap;
@@ -26,11 +30,16 @@ const CATALOGUE_FACTORS: usize = 7;
 /// The most columns in a part of a list of plans: the checking program takes its time for each plan.
 const FEW: usize = 40;
 
+/// The most places that are lent for a book, whatever its damaged header counts.
+const MOST_PLACES: usize = 400;
+
 /// A trial: its generator, what it has come to, and what was worked out once for many calls.
 pub struct Trial {
     random: Random,
     pub tally: Tally,
     pub counts: Counts,
+    /// how often the reader of books gave each number
+    pub read: [u64; 13],
     /// plans that are hard to compare
     hard: Vec<Columns>,
     /// every smallest form, by N and M
@@ -52,6 +61,7 @@ impl Trial {
             random: Random::new(seed),
             tally: Tally::new(),
             counts: Counts::default(),
+            read: [0; 13],
             hard,
             forms: BTreeMap::new(),
             seeking: false,
@@ -71,6 +81,7 @@ impl Trial {
             self.smallest_forms(&plan);
             self.books(&plan);
             self.catalogues();
+            self.readings(&plan);
             for ((name, slow), before) in self.slow.iter_mut().zip(before) {
                 if self.seeking && slowest(name) > before {
                     *slow = plan.clone();
@@ -226,12 +237,17 @@ impl Trial {
         lengths[self.random.below(lengths.len())]
     }
 
-    /// A catalogue of few factors for lists around one of its entries and around all, and a size that is refused.
-    fn catalogues(&mut self) {
+    /// N, M, R and the entries of a catalogue of few factors.
+    fn catalogue(&mut self) -> (usize, usize, usize, Entries) {
         let n = self.random.between(1, CATALOGUE_FACTORS);
         let (m, r) = (self.random.between(1, n), self.random.between(3, n + 3));
         let forms = self.forms.entry((n, m)).or_insert_with(|| every_smallest_form(n, m));
-        let entries = with_resolution(forms, r);
+        (n, m, r, with_resolution(forms, r))
+    }
+
+    /// A catalogue of few factors for lists around one of its entries and around all, and a size that is refused.
+    fn catalogues(&mut self) {
+        let (n, m, r, entries) = self.catalogue();
         let room = self.random.below(entries.len() + 1);
         for places in around(room * n).into_iter().chain(around(entries.len() * n)) {
             compare_catalogue(n, n - m, r, &entries, places);
@@ -240,6 +256,23 @@ impl Trial {
         let [n, g, r] = [(); 3].map(|_| sizes[self.random.below(sizes.len())]);
         if refusal(n, g, r) != 0 {
             around(n.min(16)).into_iter().for_each(|places| compare_refused(n, g, r, places));
+        }
+    }
+
+    /// Books, good and damaged, for lists around what their headers count: of some entries of a catalogue of few factors, and of the plan in
+    /// smallest form.
+    fn readings(&mut self, plan: &Sample) {
+        let (n, m, r, entries) = self.catalogue();
+        let few = some_of(&mut self.random, &entries, 4);
+        let form = match accepted(plan.n, plan.n - plan.m, Form::Columns, &plan.columns) {
+            Ok(_) => smallest(plan.m, &plan.columns),
+            Err(_) => plan.columns.clone(),
+        };
+        for book in [drawn(&mut self.random, n, m, r, &few), drawn(&mut self.random, plan.n, plan.m, 3, &[form])] {
+            let judged = judge(&book);
+            for places in around(judged.places().min(MOST_PLACES)) {
+                self.read[usize::from(compare_judged(&book, &judged, places))] += 1;
+            }
         }
     }
 

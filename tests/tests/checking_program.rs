@@ -4,6 +4,7 @@ use plan_tests::check::bits::odd;
 use plan_tests::check::columns::{rank_is, standard, total};
 use plan_tests::check::measures::{distances, pattern, resolution};
 use plan_tests::check::plan::{Form, Plan, Question};
+use plan_tests::check::reading::{judge, Header};
 use plan_tests::check::refusals::accepted;
 use plan_tests::check::runs::{plan_of_words, regular, runs_of_columns};
 use plan_tests::check::words::{independent, is_word, reduced, words_of};
@@ -145,4 +146,22 @@ fn refusals_of_document_01s_table_are_found() {
     assert_eq!(number(3, 1, Form::Columns, &[1, 2, 0]), 7, "a zero column");
     assert_eq!(number(3, 1, Form::Columns, &[1, 2, 2]), 7, "a repeated column");
     assert_eq!(number(3, 1, Form::Columns, &[1, 1, 0]), 6, "rank comes first");
+}
+
+#[test]
+fn books_are_read_or_refused_by_document_02s_first_request() {
+    let two = [[0x01, 4, 1, 3, 2, 0].as_slice(), &[0x24, 1, 2, 3, 4, 0x44, 1, 0, 0, 0], &[0x24, 1, 2, 4, 7, 0x44, 0, 0, 1, 0]].concat();
+    let entries = [vec![1, 2, 3, 4], vec![1, 2, 4, 7]];
+    assert_eq!(judge(&two).read(8), Ok((Header { n: 4, g: 1, r: 3, count: 2 }, &entries[..])));
+    assert_eq!(judge(&[0x01, 4, 2, 3, 0, 0]).read(0), Ok((Header { n: 4, g: 2, r: 3, count: 0 }, &[][..])));
+    let number = |book: &[u8]| judge(book).read(8).err();
+    assert_eq!(judge(&two).read(7).err(), Some(8), "room for one entry");
+    assert_eq!(number(&[]), Some(10), "a missing kind byte");
+    assert_eq!(number(&[0x02]), Some(11), "a header's kind comes before its length");
+    assert_eq!(number(&[0x01, 17, 1, 3, 0]), Some(10), "its length comes before its sizes");
+    assert_eq!(number(&[0x01, 17, 1, 3, 0, 0]), Some(1));
+    assert_eq!(number(&[0x01, 4, 1, 3, 1, 0, 0x25, 2]), Some(11));
+    assert_eq!(number(&[&two[..3], &[4], &two[4..]].concat()), Some(12), "a word of three for R 4");
+    assert_eq!(number(&[&two[..16], &two[6..16]].concat()), Some(12), "an entry twice");
+    assert_eq!(number(&[&two[..], &[0]].concat()), Some(10), "a byte left over");
 }

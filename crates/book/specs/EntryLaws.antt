@@ -27,12 +27,12 @@ pub each-none : (F : ℕ → List ℕ) → each F 0 ≡ []
 unfolding each
 each-none F = refl
 
-each-same : (F G : ℕ → List ℕ) (k : ℕ) → ((j : ℕ) → j < k → F j ≡ G j) → each F k ≡ each G k
+pub each-same : (F G : ℕ → List ℕ) (k : ℕ) → ((j : ℕ) → j < k → F j ≡ G j) → each F k ≡ each G k
 unfolding each
 each-same F G zero h = refl
 each-same F G (suc k) h = ap₂ _++_ (each-same F G k (λ j l. h j (omega arith))) (h k (omega arith))
 
-each-length : (F : ℕ → List ℕ) (e k : ℕ) → ((j : ℕ) → j < k → length (F j) ≡ e) → length (each F k) ≡ k * e
+pub each-length : (F : ℕ → List ℕ) (e k : ℕ) → ((j : ℕ) → j < k → length (F j) ≡ e) → length (each F k) ≡ k * e
 unfolding each
 each-length F e zero h = omega arith
 each-length F e (suc k) h =
@@ -58,7 +58,7 @@ columns-same n c d h =
     ap (λ (l : List ℕ). columnsKind n ∷ l)
     (each-same (λ f. getD c f 0 ∷ []) (λ f. getD d f 0 ∷ []) n (λ f l. ap (λ (x : ℕ). x ∷ []) (h f l)))
 
-pattern-same : (n : ℕ) (s : Runs) (p q : List ℕ) → Pattern n s p → Pattern n s q → patternRecord n p ≡ patternRecord n q
+pub pattern-same : (n : ℕ) (s : Runs) (p q : List ℕ) → Pattern n s p → Pattern n s q → patternRecord n p ≡ patternRecord n q
 pattern-same n s p q a b =
     ap (λ (l : List ℕ). patternKind n ∷ l)
     (each-same (λ i. lowFirst (ofLength p (3 + i))) (λ i. lowFirst (ofLength q (3 + i))) (n - 2)

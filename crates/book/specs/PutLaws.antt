@@ -2,13 +2,12 @@
 use Prim.Native.Nat.{ℕ, zero, suc, _+_, _*_, _-_, _≤_, _<_}
 use mathlib.Core.Path.{_≡_, refl, sym, ap, _∙_}
 use mathlib.Core.List.{List, [], _∷_, _++_}
-use native.Mathlib.Nat.{mul-le-mul-right}
 use native.Mathlib.Omega.{arith}
 use lib.ListN.{length, getD, take, drop, set, length-set}
 use lib.Seq.{paste, length-paste, take-suc}
 use Rattle.regular.specs.Pattern.{ofLength}
 use Rattle.regular.specs.Book.{lowFirst, each, headerKind, header, headerLength, columnsKind, columnsRecord, columnsLength}
-use Rattle.regular.specs.Book.{patternKind, patternRecord, entryRecords, entryLength, mostPlans}
+use Rattle.regular.specs.Book.{patternKind, patternRecord, entryRecords, entryLength}
 use Rattle.book.specs.Over.{over, over-none, over-one, over-parts, over-length, put-more, put-then}
 use Rattle.book.specs.EntryLaws.{each-more, each-none, columns-bytes, counts-bytes}
 
@@ -121,7 +120,3 @@ module _ (n at : ℕ) (c v w : List ℕ) (h : at + entryLength n ≤ length v) (
       ∙ put-then (at + columnsLength n) 1 (patternKind n ∷ []) counts w refl
       ∙ ap (over (at + columnsLength n) (patternRecord n p)) columns-stand
       ∙ put-then at (columnsLength n) (columnsRecord n c) (patternRecord n p) v long
-
--- the entries' length fits
-pub entries-fit : (n count : ℕ) → n ≤ 16 → count ≤ mostPlans → count * entryLength n ≤ mostPlans * entryLength 16
-entries-fit n count h l = omega (arith, mul-le-mul-right {m = count} {n = mostPlans} (entryLength n) l)

@@ -12,6 +12,12 @@ ghost use Rattle.admission.specs.Admission.{Ready};
 ghost use Rattle.book.specs.Over.{over};
 ghost use Rattle.book.specs.Writing.{standardEntry, PutEntry, BookRefusal, Opened, EntryAdded, Written, planEntry};
 use admission::lower_of;
+use book_layout::BYTE_VALUES;
+use book_layout::COLUMNS_KIND;
+use book_layout::HEADER_KIND;
+use book_layout::HEADER_LENGTH;
+use book_layout::PATTERN_KIND;
+use book_layout::book_length;
 use plan_layout::columns_at;
 use plan_layout::plan_at;
 use plan_layout::plan_count;
@@ -19,21 +25,8 @@ use regular::BookAnswer;
 use regular::Design;
 use regular::FACTORS;
 
-// The kinds of records: 0x01 the header, 0x20 + n the columns of n factors, 0x40 + n their pattern.
-const HEADER_KIND: u8 = 1;
-
-const COLUMNS_KIND: usize = 32;
-
-const PATTERN_KIND: usize = 64;
-
-// How long the header is.
-const HEADER_LENGTH: usize = 6;
-
 // The most plans that the header can count.
 const MOST_PLANS: usize = 65535;
-
-// How many values a byte has.
-const BYTE_VALUES: u16 = 256;
 
 // A number of 16 bits, low byte first, at two places.
 fn put_number(x: u16, at: usize, out: &mut [u8])
@@ -115,25 +108,6 @@ fn many(count: usize) -> u8
         return 4;
     }
     0
-}
-
-// How long an entry is.
-fn entry_length(n: usize) -> usize
-    requires { ⌜ n ≤ 16 ⌝ }
-    ensures { λ res. ⌜ res ≡ entryLength n ⌝ }
-{
-    if n < 2 {
-        return n + 2;
-    }
-    n + 2 + 2 * (n - 2)
-}
-
-// How long the book is.
-fn book_length(n: usize, count: usize) -> usize
-    requires { ⌜ (n ≤ 16) × (count ≤ mostPlans) ⌝ }
-    ensures { λ res. ⌜ res ≡ bookLength n count ⌝ }
-{
-    HEADER_LENGTH + count * entry_length(n)
 }
 
 // The call's refusal: by the plans' number or their count, then 8 if the lent bytes are too few.

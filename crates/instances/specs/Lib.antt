@@ -3,3 +3,4 @@ pub mod Searching
 pub mod Walking
 pub mod Finding
 pub mod MasksByKind
+pub mod Books

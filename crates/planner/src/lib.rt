@@ -13,11 +13,13 @@ ghost use Rattle.regular.specs.Comparisons.{Compares, ChecksWitness, Told, comp
 ghost use Rattle.regular.specs.SmallestAnswers.{ReducesInto, ReducesEach};
 ghost use Rattle.regular.specs.Catalogues.{ListsBytes};
 ghost use Rattle.regular.specs.Book.{WritesPlans};
+ghost use Rattle.regular.specs.Reading.{ReadsPlans};
 use regular::BookAnswer;
 use regular::CatalogueAnswer;
 use regular::Checked;
 use regular::Compared;
 use regular::FormAnswer;
+use regular::ReadAnswer;
 
 // Words to columns.
 #[no_mangle]
@@ -322,4 +324,12 @@ pub extern "C" fn plan_write_book(
     ensures { λ a. ⌜ WritesPlans n g r (now (plans .entry)) (now (book .entry)) (now (book .exit)) (a .number) (a .count) ⌝ }
 {
     book::write_book(n, g, r, plans, book)
+}
+
+// The entries of a book, n columns an entry, one after another.
+#[no_mangle]
+pub extern "C" fn plan_read_book(book: &[u8], columns: &mut [u8]) -> ReadAnswer
+    ensures { λ a. ⌜ ReadsPlans (now (book .entry)) (now (columns .entry)) (now (columns .exit)) a ⌝ }
+{
+    reading::list_book(book, columns)
 }

@@ -85,6 +85,16 @@ pub struct BookAnswer {
     pub count: usize,
 }
 
+// A refusal's number, 0 if accepted, the N, G and R of a book, and how many of its entries the lent list holds; 0 if refused.
+#[repr(C)]
+pub struct ReadAnswer {
+    pub number: u8,
+    pub factors: u8,
+    pub generators: u8,
+    pub resolution: u8,
+    pub count: usize,
+}
+
 // What a comparison of two plans finds: the same, with the mask of the witness; different, with the first length where the patterns differ, 0
 // if they agree; or the refusal's number.
 pub enum Compared {

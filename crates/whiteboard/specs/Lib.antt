@@ -12,6 +12,7 @@ pub mod AnswerInstances
 pub mod ResultInstances
 pub mod ListInstances
 pub mod BookInstances
+pub mod ReadingInstances
 pub mod LawInstances
 pub mod WordSets
 pub mod ToldApart

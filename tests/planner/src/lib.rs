@@ -152,6 +152,7 @@ mod exported {
             book: *mut u8,
             book_count: usize,
         ) -> super::Bytes;
+        pub fn plan_read_book(book: *const u8, book_count: usize, columns: *mut u8, columns_count: usize) -> super::Book;
         pub fn plan_smallest_of_columns(
             n: usize,
             g: usize,
@@ -368,4 +369,21 @@ pub fn plan_write_book(n: usize, g: usize, r: usize, plans: &[u8], book: &mut [u
     let (count, places) = (plans.len(), book.len());
     // SAFETY: the lists are valid for the counts given with them, they do not overlap, and the call keeps none.
     unsafe { exported::plan_write_book(n, g, r, plans.as_ptr(), count, book.as_mut_ptr(), places) }
+}
+
+/// The reader's answer: a refusal's number, 0 if accepted, then N, G, R and how many entries the list holds, all 0 if refused.
+#[repr(C)]
+#[derive(Clone, Copy, Debug, PartialEq, Eq)]
+pub struct Book {
+    pub number: u8,
+    pub factors: u8,
+    pub generators: u8,
+    pub resolution: u8,
+    pub count: usize,
+}
+
+/// Reads a book of smallest forms: its entries one after another, N columns each.
+pub fn plan_read_book(book: &[u8], columns: &mut [u8]) -> Book {
+    // SAFETY: both lists are valid for the counts given with them, they do not overlap, and the call keeps neither.
+    unsafe { exported::plan_read_book(book.as_ptr(), book.len(), columns.as_mut_ptr(), columns.len()) }
 }

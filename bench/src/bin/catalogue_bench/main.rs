@@ -1,5 +1,5 @@
-//! Measures the catalogue, through the exported function, in processor time. Prints the Markdown table of each part named: `plain`, `graphs`,
-//! `growth`, `growth-long`, `lines`.
+//! Measures the catalogue and the reader of books, through the exported functions, in processor time. Prints the Markdown table of each part
+//! named: `plain`, `graphs`, `growth`, `growth-long`, `lines`, `reading`.
 
 mod against_graphs;
 mod against_plain;
@@ -8,6 +8,7 @@ mod graphs;
 mod growth;
 mod library;
 mod plain;
+mod reading;
 mod timing;
 
 fn main() {
@@ -18,6 +19,7 @@ fn main() {
             "growth" => growth::print(false),
             "growth-long" => growth::print(true),
             "lines" => every_line::print(),
+            "reading" => reading::print(),
             _ => panic!("no part {part}"),
         }
     }

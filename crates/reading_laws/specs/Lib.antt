@@ -1,0 +1,12 @@
+pub mod Number
+pub mod Cuts
+pub mod Entries
+pub mod Places
+pub mod Taken
+pub mod Lists
+pub mod Accepted
+pub mod ReadWrite
+pub mod WriteRead
+pub mod CatalogueBook
+pub mod Decided
+pub mod SomeNumber
