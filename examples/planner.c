@@ -2,7 +2,8 @@
  *
  *     cc planner.c $(pkg-config --cflags --libs planner) -o planner
  *
- * Every call is made the same way: sizes first, then lists, each with its count; the answer is 0 or the number of a refusal. */
+ * Every call is made the same way: sizes first (a book has its own), then lists, each with its count; the answer is 0 or the number of a
+ * refusal. */
 #include "planner.h"
 
 #include <stdio.h>

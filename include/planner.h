@@ -33,7 +33,7 @@
 #include <stddef.h>
 #include <stdint.h>
 
-#define PLANNER_VERSION "0.3.0"
+#define PLANNER_VERSION "0.2.1"
 
 /* The most factors, basic factors and runs that a plan may have. So many places are enough for any list that a call on one or two plans fills.
  * Distance counts need one more than PLAN_FACTORS. Catalogues, books and several plans need more. */
@@ -222,8 +222,8 @@ struct plan_bytes plan_write_book(size_t n, size_t g, size_t r, const uint8_t *p
 
 /* Reads a book of smallest forms, such as that of a catalogue. It is accepted if each entry is a smallest form of the header's N and G whose
  * words all have at least R letters, each comes after the one before in dictionary order, each pattern is that of its plan, and nothing follows
- * the last. That the catalogue is complete is not said. The lent list takes the columns of the entries one after another, N bytes each, and
- * needs count times N places. The answer is
+ * the last. Nothing is said of completeness: the catalogue may have entries that the book lacks. The lent list takes the columns of the entries
+ * one after another, N bytes each. It needs count times N places; 65,535 times PLAN_FACTORS are enough for any book. The answer is
  *   number      PLAN_ACCEPTED or the refusal. A refused call answers 0 for all the rest
  *   factors     N
  *   generators  G

@@ -6,10 +6,11 @@ use mathlib.Core.List.{List, [], _∷_, _++_}
 use native.Mathlib.Decide.{ℕ-discrete}
 use native.Mathlib.Omega.{arith}
 use lib.ListN.{getD, replicate}
-use Rattle.regular.specs.Checks.{Check, InTurn}
+use Rattle.regular.specs.InTurn.{Check, InTurn}
 use Rattle.regular.specs.Designs.{Holds, blank}
 use Rattle.regular.specs.PlanBytes.{planAt}
-use Rattle.regular.specs.Reading.{Reading, placesOf, ReadsPlans, ReadsDesigns}
+use Rattle.regular.specs.Reading.{Reading}
+use Rattle.regular.specs.ReadingAnswers.{placesOf, ReadsPlans, ReadsDesigns}
 use Rattle.regular.specs.Smallest.{Equal, Entry}
 use Rattle.regular.specs.declared.Design.{Design}
 use Rattle.regular.specs.declared.ReadAnswer.{ReadAnswer}

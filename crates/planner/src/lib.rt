@@ -13,7 +13,7 @@ ghost use Rattle.regular.specs.Comparisons.{Compares, ChecksWitness, Told, comp
 ghost use Rattle.regular.specs.SmallestAnswers.{ReducesInto, ReducesEach};
 ghost use Rattle.regular.specs.Catalogues.{ListsBytes};
 ghost use Rattle.regular.specs.Book.{WritesPlans};
-ghost use Rattle.regular.specs.Reading.{ReadsPlans};
+ghost use Rattle.regular.specs.ReadingAnswers.{ReadsPlans};
 use regular::BookAnswer;
 use regular::CatalogueAnswer;
 use regular::Checked;

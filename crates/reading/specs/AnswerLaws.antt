@@ -11,17 +11,18 @@ use Rattle.gf2.specs.Answers.{Tells}
 use Rattle.gf2.specs.Truth.{clash, told}
 use Rattle.regular.specs.Accepted.{accepted-sizes}
 use Rattle.regular.specs.Book.{byteValues, headerKind, headerLength, columnsLength, bookLength}
-use Rattle.regular.specs.Checks.{Check, InTurn}
-use Rattle.regular.specs.CheckLaws.{turn-zero, refuses, goes-on}
+use Rattle.regular.specs.InTurn.{Check, InTurn}
+use Rattle.regular.specs.InTurnLaws.{turn-zero, refuses, goes-on}
 use Rattle.regular.specs.Refusals.{Lowest, sizeFaults}
 use Rattle.regular.specs.RefusalLaws.{none-lowest}
-use Rattle.regular.specs.Reading.{RecordAt, HeaderChecks, factorsIn, generatorsIn, resolutionIn, countIn, EntriesChecks, Reading, refusedBook}
+use Rattle.regular.specs.Reading.{RecordAt, HeaderChecks, factorsIn, generatorsIn, resolutionIn, countIn, EntriesChecks, Reading}
+use Rattle.regular.specs.ReadingAnswers.{refusedBook}
 use Rattle.regular.specs.Sizes.{Sized}
 use Rattle.regular.specs.declared.ReadAnswer.{ReadAnswer}
 use Rattle.reading_laws.specs.Taken.{read-sized, read-columns}
-use Rattle.reading.specs.Answers.{EntryThere, headerOf, HeaderRead, Answered, Judged}
+use Rattle.reading.specs.Answers.{EntryThere, headerWith, headerOf, HeaderRead, Answered, Judged}
 
-pub answered-refused : {checks : ℕ → Type 0} {book : List ℕ} (k : ℕ) (a : ReadAnswer) → a ≡ refusedBook k → checks k → (k ≡ 0 → ⊥) → Answered checks book a
+answered-refused : {checks : ℕ → Type 0} {book : List ℕ} (k : ℕ) (a : ReadAnswer) → a ≡ refusedBook k → checks k → (k ≡ 0 → ⊥) → Answered checks book a
 answered-refused {checks} {book} k a e c ne = subst (Answered checks book) (sym e) (record {
   number = c;
   refused = λ _. refl;
@@ -30,7 +31,7 @@ answered-refused {checks} {book} k a e c ne = subst (Answered checks book) (sym 
   low = λ z. absurd (ne z);
 })
 
-pub answered-header : {checks : ℕ → Type 0} {book : List ℕ} (a : ReadAnswer) → HeaderRead book a → checks 0 → Answered checks book a
+answered-header : {checks : ℕ → Type 0} {book : List ℕ} (a : ReadAnswer) → HeaderRead book a → checks 0 → Answered checks book a
 answered-header {checks} {book} a h c = record {
   number = subst (λ (x : ReadAnswer). checks (x .number)) (sym (h .is)) c;
   refused = λ l. absurd (omega (arith, ap (λ (x : ReadAnswer). x .number) (h .is)));
@@ -40,19 +41,16 @@ answered-header {checks} {book} a h c = record {
 }
 
 -- four numbers for equal ones
-pub for-equal : (P : ℕ → ℕ → ℕ → ℕ → Type 0) {n g r k n' g' r' k' : ℕ} → n ≡ n' → g ≡ g' → r ≡ r' → k ≡ k' → P n g r k → P n' g' r' k'
+for-equal : (P : ℕ → ℕ → ℕ → ℕ → Type 0) {n g r k n' g' r' k' : ℕ} → n ≡ n' → g ≡ g' → r ≡ r' → k ≡ k' → P n g r k → P n' g' r' k'
 for-equal P {n} {g} {r} {k} {n'} {g'} {r'} {k'} e f h l p =
     subst (P n' g' r') l (subst (λ (x : ℕ). P n' g' x k) h (subst (λ (x : ℕ). P n' x r k) f (subst (λ (x : ℕ). P x g r k) e p)))
 
 -- the header's bytes
-abbrev headed : List ℕ → ℕ → ReadAnswer
-headed book count = record { number = 0; factors = factorsIn book; generators = generatorsIn book; resolution = resolutionIn book; count = count }
-
 pub header-made : (book : List ℕ) (low high : ℕ) → (low ≡ getD book 4 0) × (low < 256) → (high ≡ getD book 5 0) × (high < 256)
-    → HeaderRead book (headed book (low + byteValues * high))
+    → HeaderRead book (headerWith book (low + byteValues * high))
 header-made book low high l h =
     let count : low + byteValues * high ≡ countIn book = omega (arith, l .0, h .0) in
-    record { is = ap (headed book) count; few = omega (arith, l .1, h .1); low = omega (arith, l .0, l .1) }
+    record { is = ap (headerWith book) count; few = omega (arith, l .1, h .1); low = omega (arith, l .0, l .1) }
 
 -- the header's two judgements
 module _ (book : List ℕ) (k : ℕ) (here : RecordAt headerKind headerLength book 0 k) where

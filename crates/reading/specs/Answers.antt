@@ -6,7 +6,8 @@ use mathlib.Core.List.{List}
 use lib.ListN.{length, getD}
 use Rattle.regular.specs.Book.{byteValues, columnsLength, bookLength, mostPlans}
 use Rattle.regular.specs.Pattern.{ofLength}
-use Rattle.regular.specs.Reading.{EntriesChecks, factorsIn, generatorsIn, resolutionIn, countIn, columnsIn, refusedBook}
+use Rattle.regular.specs.Reading.{EntriesChecks, factorsIn, generatorsIn, resolutionIn, countIn, columnsIn}
+use Rattle.regular.specs.ReadingAnswers.{refusedBook}
 use Rattle.regular.specs.declared.Design.{Design}
 use Rattle.regular.specs.declared.ReadAnswer.{ReadAnswer}
 
@@ -25,14 +26,11 @@ abbrev pub CountsAt : ℕ → List ℕ → List ℕ → ℕ → Type 0
 CountsAt k counts book at = (i : ℕ) → i < k → NumberAt (ofLength counts (3 + i)) book (at + i * 2)
 
 -- what a book's header says
+abbrev pub headerWith : List ℕ → ℕ → ReadAnswer
+headerWith book count = record { number = 0; factors = factorsIn book; generators = generatorsIn book; resolution = resolutionIn book; count = count }
+
 abbrev pub headerOf : List ℕ → ReadAnswer
-headerOf book = record {
-  number = 0;
-  factors = factorsIn book;
-  generators = generatorsIn book;
-  resolution = resolutionIn book;
-  count = countIn book;
-}
+headerOf book = headerWith book (countIn book)
 
 pub record HeaderRead (book : List ℕ) (a : ReadAnswer) : Type 0 where
   pub is : a ≡ headerOf book

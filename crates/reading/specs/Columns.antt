@@ -6,13 +6,14 @@ use mathlib.Core.List.{List}
 use native.Mathlib.Omega.{arith}
 use Rattle.gf2.specs.Answers.{Tells}
 use Rattle.regular.specs.Book.{columnsKind, columnsLength, bookLength, mostPlans}
-use Rattle.regular.specs.Checks.{Check}
-use Rattle.regular.specs.CheckLaws.{turn-zero, check-zero, refuses, goes-on}
+use Rattle.regular.specs.InTurn.{Check}
+use Rattle.regular.specs.InTurnLaws.{turn-zero, check-zero, refuses, goes-on}
 use Rattle.regular.specs.Reading.{RecordAt, columnsIn, EntryRises, TrueColumns, ColumnsChecks}
+use Rattle.regular.specs.ReadingLaws.{record-zero}
 use Rattle.regular.specs.Sizes.{Sized}
 use Rattle.regular.specs.Smallest.{Entry, IsEntry}
 use Rattle.reading.specs.Answers.{EntryThere}
-use Rattle.reading.specs.Steps.{record-there, columns-size}
+use Rattle.reading.specs.Steps.{columns-long}
 
 module _ (n g r : ℕ) (sized : Sized n g r) (book : List ℕ) (i : ℕ) (few : i ≤ mostPlans) (at k : ℕ) (place : at ≡ bookLength n i)
     (here : RecordAt (columnsKind n) (columnsLength n) book at k) where
@@ -24,14 +25,14 @@ module _ (n g r : ℕ) (sized : Sized n g r) (book : List ℕ) (i : ℕ) (few : 
 
   module _ (whole : k ≡ 0) where
     pub there : EntryThere n book i
-    there = record { size = sized .size .most; few = few; whole = record-there (columnsKind n) (columnsLength n) book (bookLength n i) k whole record-here .1 }
+    there = record { size = sized .size .most; few = few; whole = record-zero (columnsKind n) (columnsLength n) book (bookLength n i) k whole record-here .1 }
 
     untrue : (TrueColumns n g r book i → ⊥) → ColumnsChecks n g r book i 12
     untrue ne = goes-on k 12 whole record-here (Check.fails ne)
 
     module _ {c : List ℕ} (e : c ≡ columnsIn n book i) (b : Bool) (told : Tells b (IsEntry n g r c) (IsEntry n g r c → ⊥)) where
       is-entry : Entry n (n - g) r (columnsIn n book i) → IsEntry n g r c
-      is-entry h = subst (IsEntry n g r) (sym e) (record { sizes = sized; count = columns-size n book i there refl; entry = h })
+      is-entry h = subst (IsEntry n g r) (sym e) (record { sizes = sized; count = columns-long n book i there refl; entry = h })
 
       pub untrue-entry : b ≡ false → ColumnsChecks n g r book i 12
       untrue-entry y = untrue (λ t. told .1 y (is-entry (t .entry)))
@@ -55,6 +56,6 @@ module _ (n g r : ℕ) (sized : Sized n g r) (book : List ℕ) (i : ℕ) (few : 
   pub checked-entry : IsEntry n g r (columnsIn n book i)
   checked-entry = record {
     sizes = sized;
-    count = columns-size n book i checked-there refl;
+    count = columns-long n book i checked-there refl;
     entry = check-zero (omega arith) (turn-zero checked .1) .entry;
   }

@@ -6,8 +6,8 @@ use native.Mathlib.Numerals.{add-one}
 use native.Mathlib.Omega.{arith}
 use lib.ListN.{length}
 use Rattle.regular.specs.Book.{bookLength}
-use Rattle.regular.specs.Checks.{Check, InTurn}
-use Rattle.regular.specs.CheckLaws.{refuses, goes-on}
+use Rattle.regular.specs.InTurn.{Check, InTurn}
+use Rattle.regular.specs.InTurnLaws.{refuses, goes-on}
 use Rattle.regular.specs.Reading.{EntryChecks, EntriesChecks}
 
 -- before the turn of entry i

@@ -11,7 +11,8 @@ use lib.Seq.{getD-set-same, getD-set-other, drop-set-lt, drop-drop}
 use Rattle.regular.specs.Book.{bookLength, mostPlans, entryOfColumns}
 use Rattle.regular.specs.Designs.{Holds, designOf, blank}
 use Rattle.regular.specs.PlanBytes.{planBytes, planStart, planAt, HasPlan}
-use Rattle.regular.specs.Reading.{Reading, Taken, Reads, columnsIn, placesOf, ReadsPlans, ReadsDesigns}
+use Rattle.regular.specs.Reading.{Reading, columnsIn}
+use Rattle.regular.specs.ReadingAnswers.{Taken, Reads, placesOf, ReadsPlans, ReadsDesigns}
 use Rattle.regular.specs.Smallest.{Equal, Entry}
 use Rattle.regular.specs.declared.Design.{Design}
 use Rattle.regular.specs.declared.ReadAnswer.{ReadAnswer}
@@ -34,7 +35,7 @@ pub record FilledEntries {A : Type 0} (takes : ℕ → ℕ → ℕ) (columns : �
   pub size : length now ≡ length before
 
 -- all of them: the book is read
-pub filled-reads : {A : Type 0} (takes : ℕ → ℕ → ℕ) (columns : ℕ → List A → ℕ → List ℕ) → ((n : ℕ) → takes n 0 ≡ 0) → (a : ReadAnswer) (book : List ℕ)
+filled-reads : {A : Type 0} (takes : ℕ → ℕ → ℕ) (columns : ℕ → List A → ℕ → List ℕ) → ((n : ℕ) → takes n 0 ≡ 0) → (a : ReadAnswer) (book : List ℕ)
     (before now : List A) → Answered (Reading takes (length before) book) book a → (i : ℕ) → a .count ≤ i → FilledEntries takes columns a book before now i
     → Reads takes (λ n g list i. entryOfColumns n g (columns n list i)) book before now a
 filled-reads takes columns first a book before now x i all f = record {
@@ -96,8 +97,8 @@ module _ (a : ReadAnswer) (book before now : List ℕ) (i : ℕ) (x : Answered (
         size = p .size ∙ f .size;
       }
 
-pub plans-none : (a : ReadAnswer) (book before : List ℕ) → FilledPlans a book before before 0
-plans-none a book before = record { within = omega arith; entries = λ j h. absurd (omega arith); rest = refl; size = refl }
+pub filled-no-plans : (a : ReadAnswer) (book before : List ℕ) → FilledPlans a book before before 0
+filled-no-plans a book before = record { within = omega arith; entries = λ j h. absurd (omega arith); rest = refl; size = refl }
 
 pub plans-read : (a : ReadAnswer) (book before now : List ℕ) → Answered (Reading planStart (length before) book) book a → (i : ℕ) → a .count ≤ i
     → FilledPlans a book before now i → ReadsPlans book before now a

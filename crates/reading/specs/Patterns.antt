@@ -11,10 +11,11 @@ use Rattle.gf2.specs.Answers.{Tells}
 use Rattle.regular.specs.Columns.{planOf}
 use Rattle.regular.specs.Pattern.{Pattern, ofLength}
 use Rattle.regular.specs.Book.{lowFirst, each, patternKind, patternLength}
-use Rattle.regular.specs.Checks.{Check}
-use Rattle.regular.specs.CheckLaws.{refuses, goes-on}
+use Rattle.regular.specs.InTurn.{Check}
+use Rattle.regular.specs.InTurnLaws.{refuses, goes-on}
 use Rattle.regular.specs.Given.{ofColumns}
 use Rattle.regular.specs.Reading.{RecordAt, columnsIn, patternPlace, PatternChecks}
+use Rattle.regular.specs.ReadingLaws.{record-zero}
 use Rattle.regular.specs.Refusals.{columnsFaults}
 use Rattle.regular.specs.RefusalLaws.{lowest-none, lowest-unique, none-lowest}
 use Rattle.regular.specs.Smallest.{IsEntry}
@@ -26,7 +27,6 @@ use Rattle.entry_test.specs.Testing.{entry-accepted}
 use Rattle.book.specs.EntryLaws.{each-same, pattern-same}
 use Rattle.reading_laws.specs.Cuts.{each-cut, each-part}
 use Rattle.reading.specs.Answers.{CountsAt}
-use Rattle.reading.specs.Steps.{record-there}
 
 -- the two bytes at a place
 two-bytes : (book : List ℕ) (at : ℕ) → at + 2 ≤ length book → take 2 (drop at book) ≡ getD book at 0 ∷ getD book (at + 1) 0 ∷ []
@@ -46,12 +46,12 @@ module _ (counts book : List ℕ) (at k : ℕ) (room : at + k * 2 ≤ length boo
   within : (i : ℕ) → i < k → at + i * 2 + 2 ≤ length book
   within i h = omega arith
 
-  pub counts-stand : CountsAt k counts book at → take (k * 2) (drop at book) ≡ each number k
+  counts-stand : CountsAt k counts book at → take (k * 2) (drop at book) ≡ each number k
   counts-stand c =
       sym (each-cut book at 2 k)
       ∙ each-same part number k (λ i h. two-bytes book (at + i * 2) (within i h) ∙ ap₂ (λ (x y : ℕ). x ∷ y ∷ []) (c i h .0) (c i h .1))
 
-  pub stand-counts : take (k * 2) (drop at book) ≡ each number k → CountsAt k counts book at
+  stand-counts : take (k * 2) (drop at book) ≡ each number k → CountsAt k counts book at
   stand-counts e i h = (ap (λ (l : List ℕ). getD l 0 0) same, ap (λ (l : List ℕ). getD l 1 0) same)
     where
       long : (j : ℕ) → j < k → length (part j) ≡ 2
@@ -89,7 +89,7 @@ module _ (n g : ℕ) (book : List ℕ) (i at len k : ℕ) (place : at ≡ patter
 
   module _ (whole : k ≡ 0) where
     stands : (getD book (patternPlace n i) 0 ≡ patternKind n) × (patternPlace n i + patternLength n ≤ length book)
-    stands = record-there (patternKind n) (patternLength n) book (patternPlace n i) k whole record-here
+    stands = record-zero (patternKind n) (patternLength n) book (patternPlace n i) k whole record-here
 
     pub counts-room : at + 1 + (n - 2) * 2 ≤ length book
     counts-room = omega (arith, place, stands .1)

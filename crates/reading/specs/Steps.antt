@@ -1,6 +1,6 @@
--- Laws of the reader's steps: a record at a place, where the columns of an entry stand, their order, the counts of a pattern.
+-- Laws of the reader's steps: where the columns of an entry stand, their order, the counts of a pattern.
 use Prim.Native.Nat.{ℕ, suc, _+_, _*_, _-_, _≤_, _<_}
-use mathlib.Core.Path.{_≡_, sym, ap, ap₂, subst, subst₂, _∙_}
+use mathlib.Core.Path.{_≡_, sym, ap, ap₂, subst₂, _∙_}
 use mathlib.Core.Logic.{inr, by-cases}
 use mathlib.Core.Bool.{Bool}
 use mathlib.Core.List.{List}
@@ -9,33 +9,14 @@ use native.Mathlib.Nat.{mul-le-mul-right}
 use native.Mathlib.Omega.{arith}
 use borrow.Author.Tests.{ltb-true, ltb-false}
 use lib.Dec.{ltb}
-use lib.ListN.{length, getD, take, drop, length-drop}
-use lib.Seq.{length-take-le}
+use lib.ListN.{length, getD, take, drop}
 use Rattle.gf2.specs.Answers.{Tells}
-use Rattle.regular.specs.Checks.{Check, InTurn}
 use Rattle.regular.specs.Book.{entryLength, bookLength}
-use Rattle.regular.specs.Reading.{RecordAt, columnsIn, EntryRises}
+use Rattle.regular.specs.Reading.{columnsIn, EntryRises}
 use Rattle.regular.specs.Smallest.{Before}
 use Rattle.smallest_laws.specs.Dictionary.{not-both}
-use Rattle.reading_laws.specs.Entries.{record-zero}
+use Rattle.reading_laws.specs.Entries.{columns-size}
 use Rattle.reading.specs.Answers.{EntryThere, NumberAt, CountsAt}
-
--- a record at a place
-module _ (kind len : ℕ) (book : List ℕ) (at : ℕ) where
-  pub record-missing : length book ≤ at → RecordAt kind len book at 10
-  record-missing h = InTurn.stops 10 (omega arith) (Check.fails (λ l. omega arith))
-
-  pub record-other : at < length book → (getD book at 0 ≡ kind → ⊥) → RecordAt kind len book at 11
-  record-other h ne = InTurn.passes 11 (Check.holds h) (InTurn.stops 11 (omega arith) (Check.fails ne))
-
-  pub record-cut : at < length book → getD book at 0 ≡ kind → length book - at < len → RecordAt kind len book at 10
-  record-cut h e l = InTurn.passes 10 (Check.holds h) (InTurn.passes 10 (Check.holds e) (Check.fails (λ w. omega arith)))
-
-  pub record-whole : at < length book → getD book at 0 ≡ kind → len ≤ length book - at → RecordAt kind len book at 0
-  record-whole h e l = InTurn.passes 0 (Check.holds h) (InTurn.passes 0 (Check.holds e) (Check.holds (omega arith)))
-
-  pub record-there : (k : ℕ) → k ≡ 0 → RecordAt kind len book at k → (getD book at 0 ≡ kind) × (at + len ≤ length book)
-  record-there k e r = record-zero kind len book at (subst (RecordAt kind len book at) e r)
 
 -- two lists of columns where they first differ
 pub differ-told : (n at : ℕ) (c d : List ℕ) → at < n → ((g : ℕ) → g < at → getD c g 0 ≡ getD d g 0) → (getD c at 0 ≡ getD d at 0 → ⊥)
@@ -53,7 +34,7 @@ columns-part n book i at e =
     let from : at + 1 ≡ suc (bookLength n i) = omega (arith, e) in
     ap₂ (λ (k j : ℕ). take k (drop j book)) len from
 
--- so do the columns of the entry before it; and they are n
+-- the columns of the entry before it are there too; and they are n
 pub earlier-there : (n : ℕ) (book : List ℕ) (i : ℕ) → EntryThere n book i → EntryThere n book (i - 1)
 earlier-there n book i t = record {
   size = t .size;
@@ -61,10 +42,8 @@ earlier-there n book i t = record {
   whole = omega (arith, t .whole, mul-le-mul-right {m = i - 1} {n = i} (entryLength n) (omega arith));
 }
 
-pub columns-size : (n : ℕ) (book : List ℕ) (i : ℕ) → EntryThere n book i → {c : List ℕ} → c ≡ columnsIn n book i → length c ≡ n
-columns-size n book i t {c} e =
-    let long = length-drop (suc (bookLength n i)) book in
-    ap length e ∙ length-take-le n (drop (suc (bookLength n i)) book) (omega (arith, long, t .whole))
+pub columns-long : (n : ℕ) (book : List ℕ) (i : ℕ) → EntryThere n book i → {c : List ℕ} → c ≡ columnsIn n book i → length c ≡ n
+columns-long n book i t {c} e = ap length e ∙ columns-size n book i (t .whole)
 
 pub rises-told : (n : ℕ) (book : List ℕ) (i : ℕ) → (i ≡ 0 → ⊥) → {c d : List ℕ} → c ≡ columnsIn n book (i - 1) → d ≡ columnsIn n book i → (b : Bool)
     → Tells b (Before n c d) (Before n c d → ⊥) → Tells b (EntryRises n book i) (EntryRises n book i → ⊥)

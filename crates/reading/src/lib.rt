@@ -8,7 +8,7 @@ ghost use Rattle.regular.specs.Smallest.{Before, IsEntry};
 ghost use Rattle.regular.specs.PlanBytes.{planStart};
 ghost use Rattle.regular.specs.Book.{headerLength, mostPlans};
 ghost use Rattle.regular.specs.Reading.{RecordAt, HeaderChecks, columnsIn, EntryRises, ColumnsChecks, PatternChecks, EntryChecks, EntriesChecks, Reading};
-ghost use Rattle.regular.specs.Reading.{refusedBook, ReadsPlans, placesOf, ReadsDesigns};
+ghost use Rattle.regular.specs.ReadingAnswers.{refusedBook, ReadsPlans, placesOf, ReadsDesigns};
 ghost use Rattle.reading.specs.Answers.{EntryThere, NumberAt, CountsAt, HeaderRead, Answered, Judged, DesignIn};
 use admission::array_of;
 use admission::bounds_number;
@@ -198,14 +198,18 @@ fn header_of(book: &[u8]) -> ReadAnswer
     requires { ⌜ headerLength ≤ length (now book) ⌝ }
     ensures { λ res. ⌜ HeaderRead (now (book .entry)) res ⌝ }
 {
+    let factors = book[1];
+    let generators = book[2];
+    let resolution = book[3];
     let low = as_index(book[4]);
     let high = as_index(book[5]);
+    let count = low + BYTE_VALUES as usize * high;
     ReadAnswer {
         number: 0,
-        factors: book[1],
-        generators: book[2],
-        resolution: book[3],
-        count: low + 256 * high,
+        factors,
+        generators,
+        resolution,
+        count,
     }
 }
 

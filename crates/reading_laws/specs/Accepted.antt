@@ -21,9 +21,9 @@ use Rattle.entry_test.specs.Testing
 use Rattle.book.specs.WritingLaws.{many-none}
 
 -- as design records, and as bytes
-pub designs-none : (n g r : ℕ) (list : List Design) → Sized n g r
+pub designs-faultless : (n g r : ℕ) (list : List Design) → Sized n g r
     → ((i : ℕ) → i < length list → Holds n (n - g) (Entry n (n - g) r) (getD list i blank)) → Lowest (wantedRecordsFaults n g r list) 0
-designs-none n g r list z holds = lowest-none (wantedRecordsFaults n g r list) never
+designs-faultless n g r list z holds = lowest-none (wantedRecordsFaults n g r list) never
   where
     never : (k : ℕ) → wantedRecordsFaults n g r list k → ⊥
     never k (inl (inl s)) = none-lowest (sizeFaults n g r) (sizes-accepted n g r z) k (inl s)
@@ -32,9 +32,9 @@ designs-none n g r list z holds = lowest-none (wantedRecordsFaults n g r list) n
     never k (inr (inl f)) = none-lowest (sizeFaults n g r) (sizes-accepted n g r z) k (inr f)
     never k (inr (inr (i, (h, WantedFault.short s)))) = omega (arith, holds i h .columns .long (s .word) (s .is), s .few)
 
-pub plans-none : (n g r count : ℕ) (plans : List ℕ) → Sized n g r → length plans ≡ planStart n count
+pub plans-faultless : (n g r count : ℕ) (plans : List ℕ) → Sized n g r → length plans ≡ planStart n count
     → ((i : ℕ) → i < planCount n (length plans) → Entry n (n - g) r (planAt n plans i)) → Lowest (wantedPlansFaults n g r plans) 0
-plans-none n g r count plans z whole entries = lowest-none (wantedPlansFaults n g r plans) never
+plans-faultless n g r count plans z whole entries = lowest-none (wantedPlansFaults n g r plans) never
   where
     there : (i : ℕ) → HasPlan n plans i → IsEntry n g r (planAt n plans i)
     there i h = record { sizes = z; count = plan-size n plans i h; entry = entries i (held-count n (length plans) i (z .size .some) h) }

@@ -11,7 +11,7 @@ use Rattle.regular.specs.PlanLists.{wantedPlansFaults}
 use Rattle.regular.specs.Smallest.{Equal, Catalogue}
 use Rattle.regular.specs.Book.{WritesPlans, WritesDesigns}
 use Rattle.regular.specs.Catalogues.{ListsBytes, ListsDesigns}
-use Rattle.regular.specs.Reading.{ReadsPlans, ReadsDesigns}
+use Rattle.regular.specs.ReadingAnswers.{ReadsPlans, ReadsDesigns}
 use Rattle.regular.specs.declared.Design.{Design}
 use Rattle.regular.specs.declared.ReadAnswer.{ReadAnswer}
 use Rattle.plan_lists.specs.Accepted.{plans-accepted}
@@ -23,7 +23,7 @@ use Rattle.reading_laws.specs.WriteRead.{EntriesRise, writer-accepts, As
 
 -- a catalogue's entries rise, in whichever list they stand
 module _ {n m r count : ℕ} {columns : ℕ → List ℕ} (c : Catalogue n m r count columns) where
-  pub catalogue-rises : (others : ℕ → List ℕ) → ((i : ℕ) → i < count → Equal n (others i) (columns i)) → EntriesRise n m r count others
+  catalogue-rises : (others : ℕ → List ℕ) → ((i : ℕ) → i < count → Equal n (others i) (columns i)) → EntriesRise n m r count others
   catalogue-rises others same = record {
     entries = λ i h. entry-equal n m (columns i) (others i) (back i h) r (c .sound i h);
     rising = λ i j h l. before-like n (columns i) (columns j) (others i) (others j) (back i (omega arith)) (back j l) (c .order i j h l);

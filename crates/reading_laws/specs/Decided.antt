@@ -28,7 +28,7 @@ use Rattle.catalogue_laws.specs.Model.{entries}
 use Rattle.catalogue_laws.specs.Demand.{plan-runs}
 use Rattle.book.specs.EntryLaws.{pattern-same}
 
-pub before-or-not : (n : ℕ) (c d : List ℕ) → Dec (Before n c d)
+before-or-not : (n : ℕ) (c d : List ℕ) → Dec (Before n c d)
 before-or-not n c d =
     ⊎-elim (λ e. no (before-irrefl n c d e)) (⊎-elim (λ b. yes b) (λ b. no (λ a. not-both n c d (inr a) b))) (before-total n c d)
 
@@ -37,7 +37,7 @@ equal-or-not n c d =
     ⊎-elim (λ e. inl e) (λ o. inr (λ e. ⊎-elim (before-irrefl n c d e) (before-irrefl n d c (equal-sym n c d e)) o)) (before-total n c d)
 
 -- an entry is one of the catalogue's
-pub entry-or-not : (n m r : ℕ) (c : List ℕ) → Dec (Entry n m r c)
+entry-or-not : (n m r : ℕ) (c : List ℕ) → Dec (Entry n m r c)
 entry-or-not n m r c =
     let k = model-catalogue n m r in
     let count = length (entries n m r) in
@@ -47,7 +47,7 @@ entry-or-not n m r c =
     (some-or-all (λ i. Equal n (entry i) c) (λ i. Equal n (entry i) c → ⊥) (upto count) (λ i. equal-or-not n (entry i) c))
 
 -- columns of full rank have a pattern
-pub pattern-some : (n m : ℕ) (c : List ℕ) → Spans n m c → (p : List ℕ) × Pattern n (planOf n m c) p
+pattern-some : (n m : ℕ) (c : List ℕ) → Spans n m c → (p : List ℕ) × Pattern n (planOf n m c) p
 pattern-some n m c sp =
     let t = runTable n m c in
     let st = table-standard n m t (runs-table n m c (spans-apart n m c sp)) in
@@ -71,9 +71,9 @@ pattern-some n m c sp =
 
 -- what is asked of entry i
 module _ (n g r : ℕ) (book : List ℕ) where
-  follows-or-not : (i : ℕ) → Dec (EntryRises n book i)
-  follows-or-not zero = yes (λ j e. absurd (omega arith))
-  follows-or-not (suc i) =
+  rises-or-not : (i : ℕ) → Dec (EntryRises n book i)
+  rises-or-not zero = yes (λ j e. absurd (omega arith))
+  rises-or-not (suc i) =
       let last : List ℕ = columnsIn n book (suc i) in
       map-dec (λ b j e. let q : i ≡ j = omega arith in subst (λ (k : ℕ). Before n (columnsIn n book k) last) q b) (λ f. f i refl)
       (before-or-not n (columnsIn n book i) last)
@@ -81,7 +81,7 @@ module _ (n g r : ℕ) (book : List ℕ) where
   pub columns-or-not : (i : ℕ) → Dec (TrueColumns n g r book i)
   columns-or-not i =
       by-cases (entry-or-not n (n - g) r (columnsIn n book i))
-      (λ e. map-dec (λ f. record { entry = e; rises = f }) (λ x. x .rises) (follows-or-not i)) (λ none. no (λ x. none (x .entry)))
+      (λ e. map-dec (λ f. record { entry = e; rises = f }) (λ x. x .rises) (rises-or-not i)) (λ none. no (λ x. none (x .entry)))
 
   pub pattern-or-not : (i : ℕ) → TrueColumns n g r book i → Dec (TruePattern n g book i)
   pattern-or-not i x =

@@ -10,3 +10,4 @@ pub mod WriteRead
 pub mod CatalogueBook
 pub mod Decided
 pub mod SomeNumber
+pub mod Unique

@@ -7,7 +7,8 @@ use Rattle.regular.specs.Refusals.{sizeFaults}
 use Rattle.regular.specs.Book.{headerKind, headerLength, columnsKind, columnsLength, patternKind, patternLength, bookLength}
 use Rattle.regular.specs.Reading.{RecordAt, HeaderChecks, factorsIn, generatorsIn, resolutionIn, countIn}
 use Rattle.regular.specs.Reading.{patternPlace, TrueColumns, TruePattern, EntryChecks, EntriesChecks, Reading}
-use Rattle.regular.specs.CheckLaws.{One, lowest-one, check-one, turn-one}
+use Rattle.regular.specs.RefusalLaws.{lowest-unique}
+use Rattle.regular.specs.InTurnLaws.{One, check-one, turn-one}
 
 record-one : (kind len : ℕ) (book : List ℕ) (at : ℕ) → One (RecordAt kind len book at)
 record-one kind len book at =
@@ -15,7 +16,7 @@ record-one kind len book at =
 
 header-one : (book : List ℕ) → One (HeaderChecks book)
 header-one book =
-    turn-one (record-one headerKind headerLength book 0) (lowest-one (sizeFaults (factorsIn book) (generatorsIn book) (resolutionIn book)))
+    turn-one (record-one headerKind headerLength book 0) (lowest-unique (sizeFaults (factorsIn book) (generatorsIn book) (resolutionIn book)))
 
 entry-one : (n g r : ℕ) (book : List ℕ) (i : ℕ) → One (EntryChecks n g r book i)
 entry-one n g r book i =

@@ -16,16 +16,18 @@ use Rattle.regular.specs.Columns.{planOf}
 use Rattle.regular.specs.Smallest.{Before, Equal}
 use Rattle.regular.specs.Book.{byteValues, each, headerKind, headerLength, header, columnsLength, entryLength, bookLength}
 use Rattle.regular.specs.Book.{BookEntry, entryOfColumns, EntryBytes, Book}
-use Rattle.regular.specs.Checks.{Check, InTurn}
-use Rattle.regular.specs.Reading.{factorsIn, generatorsIn, resolutionIn, countIn, columnsIn, EntriesChecks, Reading, Taken}
+use Rattle.regular.specs.InTurn.{Check, InTurn}
+use Rattle.regular.specs.Reading.{factorsIn, generatorsIn, resolutionIn, countIn, columnsIn, EntriesChecks, Reading}
+use Rattle.regular.specs.ReadingAnswers.{Taken}
+use Rattle.regular.specs.ReadingLaws.{record-zero, record-stands}
 use Rattle.words.specs.Switches.{pattern-agree}
 use Rattle.smallest_laws.specs.Dictionary.{before-trans, before-equal, equal-before, equal-sym}
 use Rattle.smallest_laws.specs.Growth.{plan-equal, entry-equal}
 use Rattle.book.specs.EntryLaws.{columns-same, entry-like}
 use Rattle.book.specs.WritingLaws.{entry-room}
-use Rattle.regular.specs.CheckLaws.{turn-zero, check-zero}
+use Rattle.regular.specs.InTurnLaws.{turn-zero, check-zero}
 use Rattle.reading_laws.specs.Cuts.{each-cut, flat-take}
-use Rattle.reading_laws.specs.Entries.{record-zero, zero-record, EntryIn, checks-entry, entry-checks}
+use Rattle.reading_laws.specs.Entries.{EntryIn, checks-entry, entry-checks}
 use Rattle.reading_laws.specs.Places.{book-size, book-entry, book-columns}
 
 -- the entries of columns: those of a list of plans as bytes, and of a list of design records, are such
@@ -64,11 +66,11 @@ module _ (n g r count : ℕ) (columns others : ℕ → List ℕ) (book : List �
 -- ---- what is read is taken
 
 -- the entries that are due from entry i on
-pub record EntriesIn (n g r : ℕ) (book : List ℕ) (i due : ℕ) : Type 0 where
+record EntriesIn (n g r : ℕ) (book : List ℕ) (i due : ℕ) : Type 0 where
   pub entry : (j : ℕ) → i ≤ j → j < i + due → EntryIn n g r book j
   pub end : length book ≤ bookLength n (i + due)
 
-pub checks-entries : (n g r : ℕ) (book : List ℕ) (i due : ℕ) → EntriesChecks n g r book i due 0 → EntriesIn n g r book i due
+checks-entries : (n g r : ℕ) (book : List ℕ) (i due : ℕ) → EntriesChecks n g r book i due 0 → EntriesIn n g r book i due
 unfolding EntriesChecks
 checks-entries n g r book i zero c =
     let z : i + 0 ≡ i = omega arith in
@@ -99,7 +101,7 @@ high-of x y h = omega arith
 
 module _ (takes : ℕ → ℕ → ℕ) (places : ℕ) (book : List ℕ) (x : Reading takes places book 0) where
   header-read : (getD book 0 0 ≡ headerKind) × (0 + headerLength ≤ length book)
-  header-read = record-zero headerKind headerLength book 0 (turn-zero (turn-zero x .0) .0)
+  header-read = record-zero headerKind headerLength book 0 0 refl (turn-zero (turn-zero x .0) .0)
 
   -- there is room
   pub read-room : takes (factorsIn book) (countIn book) ≤ places
@@ -114,7 +116,7 @@ module _ (takes : ℕ → ℕ → ℕ) (places : ℕ) (book : List ℕ) (x : Rea
   entries-read = checks-entries (factorsIn book) (generatorsIn book) (resolutionIn book) book 0 (countIn book) (turn-zero (turn-zero x .1) .1)
 
   -- entry i is true
-  pub read-entry : (i : ℕ) → i < countIn book → EntryIn (factorsIn book) (generatorsIn book) (resolutionIn book) book i
+  read-entry : (i : ℕ) → i < countIn book → EntryIn (factorsIn book) (generatorsIn book) (resolutionIn book) book i
   read-entry i h = entries-read .entry i (omega arith) (omega arith)
 
   -- its columns are there
@@ -176,7 +178,7 @@ module _ (takes : ℕ → ℕ → ℕ) (places : ℕ) (book : List ℕ) (x : Rea
 
 -- ---- what is taken is read
 
-pub entries-checks : (n g r : ℕ) (book : List ℕ) (i due : ℕ) → EntriesIn n g r book i due → EntriesChecks n g r book i due 0
+entries-checks : (n g r : ℕ) (book : List ℕ) (i due : ℕ) → EntriesIn n g r book i due → EntriesChecks n g r book i due 0
 unfolding EntriesChecks
 entries-checks n g r book i zero x =
     let z : i + 0 ≡ i = omega arith in
@@ -218,6 +220,34 @@ module _ (n g r count : ℕ) (columns : ℕ → List ℕ) (book : List ℕ) (t :
       let own-count : count ≡ countIn whole = omega arith in
       subst (λ (l : List ℕ). Reading takes places l 0) (sym (t .is .bytes))
       (InTurn.passes 0
-      (InTurn.passes 0 (zero-record headerKind headerLength whole 0 (omega arith) refl (omega (arith, long))) (sizes-accepted n g r (t .sized)))
+      (InTurn.passes 0 (record-stands headerKind headerLength whole 0 (omega (arith, long)) refl (omega (arith, long))) (sizes-accepted n g r (t .sized)))
       (subst (λ (k : ℕ). InTurn (Check 8 (takes n k ≤ places)) (EntriesChecks n g r whole 0 k) 0) own-count
       (InTurn.passes 0 (Check.holds room) (subst (λ (l : List ℕ). EntriesChecks n g r l 0 count 0) (t .is .bytes) taken-entries))))
+
+-- ---- exactly
+
+-- a book that keeps the rules, for which there is room
+pub record Readable (takes : ℕ → ℕ → ℕ) (places : ℕ) (book : List ℕ) : Type 0 where
+  pub n : ℕ
+  pub g : ℕ
+  pub r : ℕ
+  pub count : ℕ
+  pub columns : ℕ → List ℕ
+  pub taken : Taken n g r count (entriesOf n g columns) book
+  pub room : takes n count ≤ places
+
+-- the number is 0 exactly for such a book
+pub read-exactly : (takes : ℕ → ℕ → ℕ) (places : ℕ) (book : List ℕ) → getD book 4 0 < byteValues
+    → (Reading takes places book 0 → Readable takes places book) × (Readable takes places book → Reading takes places book 0)
+read-exactly takes places book low = (
+  λ x. record {
+    n = factorsIn book;
+    g = generatorsIn book;
+    r = resolutionIn book;
+    count = countIn book;
+    columns = columnsIn (factorsIn book) book;
+    taken = read-taken takes places book x low;
+    room = read-room takes places book x;
+  },
+  λ y. taken-read (y .n) (y .g) (y .r) (y .count) (y .columns) book (y .taken) takes places (y .room),
+)

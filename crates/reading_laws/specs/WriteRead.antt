@@ -14,7 +14,8 @@ use Rattle.regular.specs.PlanLists.{wantedRecordsFaults, wantedPlansFaults}
 use Rattle.regular.specs.Smallest.{Before, Equal, Entry}
 use Rattle.regular.specs.Book.{bookLength, bookFaults, CountFault, entryOfColumns, Writes, WritesPlans, WritesDesigns}
 use Rattle.regular.specs.Refusals.{LentFault, either}
-use Rattle.regular.specs.Reading.{columnsIn, Taken, Reads, ReadsPlans, placesOf, ReadsDesigns}
+use Rattle.regular.specs.Reading.{columnsIn}
+use Rattle.regular.specs.ReadingAnswers.{Taken, Reads, ReadsPlans, placesOf, ReadsDesigns}
 use Rattle.regular.specs.declared.Design.{Design}
 use Rattle.regular.specs.declared.ReadAnswer.{ReadAnswer}
 use Rattle.plan_lists.specs.Accepted.{records-accepted, plans-accepted}
@@ -35,7 +36,7 @@ writer-accepts faults n count out l =
     lowest-left faults (CountFault count) (lowest-left (either faults (CountFault count)) (LentFault (bookLength n count) out) l)
 
 -- the book of a list that was written, whose entries rise, is taken
-pub written-taken : {faults : ℕ → Type 0} {n g r count used : ℕ} {columns : ℕ → List ℕ} {out exit : List ℕ} → Sized n g r
+written-taken : {faults : ℕ → Type 0} {n g r count used : ℕ} {columns : ℕ → List ℕ} {out exit : List ℕ} → Sized n g r
     → EntriesRise n (n - g) r count columns → Writes faults n g r count (entriesOf n g columns) out exit 0 used
     → Taken n g r count (entriesOf n g columns) (take used exit)
 written-taken z x w = record { sized = z; entries = x .entries; rising = x .rising; is = w .book refl }

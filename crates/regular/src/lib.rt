@@ -1,4 +1,4 @@
-// The definitions of document 01, in specs/, and the types that its calls hand around.
+// The definitions of documents 01 and 02, in specs/, and the types that their calls hand around.
 
 // The most factors, basic factors and runs of a plan.
 pub const FACTORS: usize = 16;

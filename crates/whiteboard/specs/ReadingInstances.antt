@@ -1,5 +1,5 @@
--- Instances of the reader: a book of ABC and ABCD that is taken, and one for each refusal, in the order in which the bytes bring them.
-use Prim.Native.Nat.{ℕ, _+_, _≤_, _<_}
+-- Instances of the reader: a book of ABC and ABCD that is taken, and books that are refused, in the order in which the bytes bring the checks.
+use Prim.Native.Nat.{ℕ, _≤_}
 use mathlib.Core.Path.{_≡_, refl, sym, ap, subst}
 use mathlib.Core.Logic.{inl, inr, by-cases}
 use mathlib.Core.List.{List, [], _∷_, _++_}
@@ -8,11 +8,14 @@ use native.Mathlib.Omega.{arith}
 use lib.ListN.{length, getD, replicate}
 use Rattle.regular.specs.Accepted.{sizes-accepted}
 use Rattle.regular.specs.Book.{each, entryOfColumns, EntryBytes}
-use Rattle.regular.specs.Checks.{Check, InTurn}
+use Rattle.regular.specs.InTurn.{Check, InTurn}
 use Rattle.regular.specs.Columns.{planOf}
 use Rattle.regular.specs.Pattern.{ofLength}
-use Rattle.regular.specs.Reading.{RecordAt, HeaderChecks, columnsIn, EntryRises, TrueColumns, TruePattern, EntryChecks, EntriesChecks, Reading, Taken}
-use Rattle.regular.specs.Reading.{refusedBook, placesOf, ReadsPlans}
+use Rattle.regular.specs.PlanBytes.{planAt}
+use Rattle.regular.specs.Reading.{RecordAt, HeaderChecks, columnsIn, EntryRises, TrueColumns, TruePattern, EntryChecks, EntriesChecks, Reading}
+use Rattle.regular.specs.ReadingAnswers.{Taken}
+use Rattle.regular.specs.ReadingAnswers.{refusedBook, placesOf, ReadsPlans}
+use Rattle.regular.specs.ReadingLaws.{record-stands}
 use Rattle.regular.specs.RefusalLaws.{lowest-at}
 use Rattle.regular.specs.Refusals.{SizeFault, ResolutionFault, sizeFaults}
 use Rattle.regular.specs.Smallest.{Before}
@@ -20,6 +23,7 @@ use Rattle.smallest_laws.specs.Dictionary.{not-both}
 use Rattle.counts.specs.Patterns.{pattern-unique}
 use Rattle.whiteboard.specs.BookInstances.{bytes-abc, bytes-abcd, book}
 use Rattle.whiteboard.specs.PlanInstances.{pattern-abc, pattern-abcd, sized-4, short-abc}
+use Rattle.whiteboard.specs.ResultInstances.{plans}
 use Rattle.whiteboard.specs.Samples.{abc, abcd, catalogue-4}
 
 -- the header of N 4, G 1, R 3 and two entries; the entries ABC and ABCD
@@ -36,25 +40,22 @@ abbrev pub rising : List ℕ
 rising = head ++ first ++ second
 
 -- a record: there, missing, of another kind, cut off
-whole : (kind len : ℕ) (bytes : List ℕ) (at : ℕ) → at < length bytes → getD bytes at 0 ≡ kind → at + len ≤ length bytes → RecordAt kind len bytes at 0
-whole kind len bytes at h e l = InTurn.passes 0 (Check.holds h) (InTurn.passes 0 (Check.holds e) (Check.holds l))
+pub record-4 : RecordAt 36 5 rising 6 0
+record-4 = record-stands 36 5 rising 6 (omega arith) refl (omega arith)
 
-pub record-there : RecordAt 36 5 rising 6 0
-record-there = whole 36 5 rising 6 (omega arith) refl (omega arith)
+pub record-4-missing : RecordAt 36 5 rising 26 10
+record-4-missing = InTurn.stops 10 (omega arith) (Check.fails (λ h. omega arith))
 
-pub record-missing : RecordAt 36 5 rising 26 10
-record-missing = InTurn.stops 10 (omega arith) (Check.fails (λ h. omega arith))
+pub record-4-other : RecordAt 36 5 rising 7 11
+record-4-other = InTurn.passes 11 (Check.holds (omega arith)) (InTurn.stops 11 (omega arith) (Check.fails (λ e. omega arith)))
 
-pub record-other : RecordAt 36 5 rising 7 11
-record-other = InTurn.passes 11 (Check.holds (omega arith)) (InTurn.stops 11 (omega arith) (Check.fails (λ e. omega arith)))
-
-pub record-cut : RecordAt 36 11 rising 16 10
-record-cut = InTurn.passes 10 (Check.holds (omega arith)) (InTurn.passes 10 (Check.holds refl) (Check.fails (λ h. omega arith)))
+pub record-4-cut : RecordAt 36 11 rising 16 10
+record-4-cut = InTurn.passes 10 (Check.holds (omega arith)) (InTurn.passes 10 (Check.holds refl) (Check.fails (λ h. omega arith)))
 
 -- the header, whatever follows it; no byte at all, another kind first, cut off; N 17 is 1, though it has no entry
 pub header-4 : (rest : List ℕ) → HeaderChecks (head ++ rest) 0
 header-4 rest =
-    InTurn.passes 0 (whole 1 6 (head ++ rest) 0 (omega arith) refl (omega arith))
+    InTurn.passes 0 (record-stands 1 6 (head ++ rest) 0 (omega arith) refl (omega arith))
     (sizes-accepted 4 1 3 sized-4)
 
 pub header-none : HeaderChecks [] 10
@@ -70,7 +71,7 @@ header-cut =
 
 pub header-17 : HeaderChecks (1 ∷ 17 ∷ 1 ∷ 3 ∷ 0 ∷ 0 ∷ []) 1
 header-17 =
-    InTurn.passes 1 (whole 1 6 (1 ∷ 17 ∷ 1 ∷ 3 ∷ 0 ∷ 0 ∷ []) 0 (omega arith) refl (omega arith))
+    InTurn.passes 1 (record-stands 1 6 (1 ∷ 17 ∷ 1 ∷ 3 ∷ 0 ∷ 0 ∷ []) 0 (omega arith) refl (omega arith))
     (lowest-at (sizeFaults 17 1 3) 1 (omega arith) (inl (SizeFault.factors (inr (omega arith)))) least)
   where
     least : (k : ℕ) → sizeFaults 17 1 3 k → 1 ≤ k
@@ -90,8 +91,8 @@ module _ (rest : List ℕ) where
   entry-first : EntryChecks 4 1 3 (head ++ first ++ rest) 0 0
   entry-first =
       InTurn.passes 0
-      (InTurn.passes 0 (whole 36 5 (head ++ first ++ rest) 6 (omega arith) refl (omega arith)) (Check.holds columns-first))
-      (InTurn.passes 0 (whole 68 5 (head ++ first ++ rest) 11 (omega arith) refl (omega arith)) (Check.holds pattern-first))
+      (InTurn.passes 0 (record-stands 36 5 (head ++ first ++ rest) 6 (omega arith) refl (omega arith)) (Check.holds columns-first))
+      (InTurn.passes 0 (record-stands 68 5 (head ++ first ++ rest) 11 (omega arith) refl (omega arith)) (Check.holds pattern-first))
 
 module _ (rest : List ℕ) where
   pub columns-second : TrueColumns 4 1 3 (head ++ first ++ second ++ rest) 1
@@ -108,21 +109,21 @@ module _ (rest : List ℕ) where
   entry-second : EntryChecks 4 1 3 (head ++ first ++ second ++ rest) 1 0
   entry-second =
       InTurn.passes 0
-      (InTurn.passes 0 (whole 36 5 (head ++ first ++ second ++ rest) 16 (omega arith) refl (omega arith)) (Check.holds columns-second))
-      (InTurn.passes 0 (whole 68 5 (head ++ first ++ second ++ rest) 21 (omega arith) refl (omega arith)) (Check.holds pattern-second))
+      (InTurn.passes 0 (record-stands 36 5 (head ++ first ++ second ++ rest) 16 (omega arith) refl (omega arith)) (Check.holds columns-second))
+      (InTurn.passes 0 (record-stands 68 5 (head ++ first ++ second ++ rest) 21 (omega arith) refl (omega arith)) (Check.holds pattern-second))
 
   -- both
-  entries-both : (k : ℕ) → Check 10 (length (head ++ first ++ second ++ rest) ≤ 26) k → EntriesChecks 4 1 3 (head ++ first ++ second ++ rest) 0 2 k
+  both-entries : (k : ℕ) → Check 10 (length (head ++ first ++ second ++ rest) ≤ 26) k → EntriesChecks 4 1 3 (head ++ first ++ second ++ rest) 0 2 k
   unfolding EntriesChecks
-  entries-both k c = InTurn.passes k (entry-first (second ++ rest)) (InTurn.passes k entry-second c)
+  both-entries k c = InTurn.passes k (entry-first (second ++ rest)) (InTurn.passes k entry-second c)
 
   -- with a list of two places
   both : (k : ℕ) → Check 10 (length (head ++ first ++ second ++ rest) ≤ 26) k → Reading placesOf 2 (head ++ first ++ second ++ rest) k
-  both k c = InTurn.passes k (header-4 (first ++ second ++ rest)) (InTurn.passes k (Check.holds (omega arith)) (entries-both k c))
+  both k c = InTurn.passes k (header-4 (first ++ second ++ rest)) (InTurn.passes k (Check.holds (omega arith)) (both-entries k c))
 
 -- of these bytes alone
 pub judged : EntriesChecks 4 1 3 rising 0 2 0
-judged = entries-both [] 0 (Check.holds (omega arith))
+judged = both-entries [] 0 (Check.holds (omega arith))
 
 -- taken; a byte left over; a list of one place: 8, though the records are cut off as well
 pub read-rising : Reading placesOf 2 rising 0
@@ -131,8 +132,8 @@ read-rising = both [] 0 (Check.holds (omega arith))
 pub read-left : Reading placesOf 2 (rising ++ (0 ∷ [])) 10
 read-left = both (0 ∷ []) 10 (Check.fails (λ h. omega arith))
 
-pub read-room : Reading placesOf 1 head 8
-read-room = InTurn.passes 8 (header-4 []) (InTurn.stops 8 (omega arith) (Check.fails (λ h. omega arith)))
+pub read-cramped : Reading placesOf 1 head 8
+read-cramped = InTurn.passes 8 (header-4 []) (InTurn.stops 8 (omega arith) (Check.fails (λ h. omega arith)))
 
 -- the same entries in the other order, as the writer takes them: ABC does not come after ABCD
 pub not-rising : EntryRises 4 book 1 → ⊥
@@ -155,9 +156,9 @@ read-untrue =
     InTurn.passes 12 (header-4 (36 ∷ 1 ∷ 2 ∷ 3 ∷ 4 ∷ 68 ∷ 2 ∷ 0 ∷ 0 ∷ 0 ∷ 99 ∷ []))
     (InTurn.passes 12 (Check.holds (omega arith)) (InTurn.stops 12 (omega arith)
     (InTurn.passes 12
-    (InTurn.passes 0 (whole 36 5 two 6 (omega arith) refl (omega arith))
+    (InTurn.passes 0 (record-stands 36 5 two 6 (omega arith) refl (omega arith))
     (Check.holds (record { entry = catalogue-4 .sound 0 (omega arith); rises = λ j e. absurd (omega arith) })))
-    (InTurn.passes 12 (whole 68 5 two 11 (omega arith) refl (omega arith)) (Check.fails not-pattern)))))
+    (InTurn.passes 12 (record-stands 68 5 two 11 (omega arith) refl (omega arith)) (Check.fails not-pattern)))))
 
 -- ABC has a word of three letters, so it is no entry of R 4
 pub not-columns : TrueColumns 4 1 4 (1 ∷ 4 ∷ 1 ∷ 4 ∷ 1 ∷ 0 ∷ first) 0 → ⊥
@@ -197,3 +198,7 @@ reads-refused = record {
   rest = refl;
   size = refl;
 }
+
+-- in the other order they are not taken
+pub not-taken : Taken 4 1 3 2 (λ i. entryOfColumns 4 1 (planAt 4 plans i)) book → ⊥
+not-taken t = not-both 4 abc abcd (inr (catalogue-4 .order 0 1 (omega arith) (omega arith))) (t .rising 0 1 (omega arith) (omega arith))

@@ -3,12 +3,12 @@ use Prim.Native.Nat.{ℕ}
 use mathlib.Core.Path.{_≡_, sym, subst}
 use native.Mathlib.Omega.{arith}
 use borrow.Author.Needs.{needs}
-use Rattle.regular.specs.Reading.{placesOf}
+use Rattle.regular.specs.ReadingAnswers.{placesOf}
 use Rattle.regular.specs.Sizes.{Sized}
 use Rattle.reading.specs.Answers.{EntryThere}
 use Rattle.reading.specs.AnswerLaws.{not-refused, taken-sized, taken-there}
 use Rattle.reading.specs.Filling.{design-made}
-use Rattle.reading.specs.Steps.{columns-size}
+use Rattle.reading.specs.Steps.{columns-long}
 use Rattle.reading.proofs.design_in.Statement.{statement}
 use Rattle.reading.proofs.design_in.Tie as tie
 
@@ -42,7 +42,7 @@ array-of-requires c κs =
     let s = c .before .before .before .before in
     let e = c .before .before .as-index .ensures .0 in
     let here = subst (λ (n : ℕ). EntryThere n (s .args .book .now) (s .args .i)) (sym e) (there s) in
-    omega (arith, here .size, columns-size (c .before .before .as-index .result) (s .args .book .now) (s .args .i) here (c .columns-in .ensures))
+    omega (arith, here .size, columns-long (c .before .before .as-index .result) (s .args .book .now) (s .args .i) here (c .columns-in .ensures))
 
 design-requires : tie.Need-design-requires
 design-requires c κs = search needs

@@ -1,5 +1,5 @@
 -- `reading::entry_number` meets its contract: the columns, then the pattern. Assumes nothing.
-use Rattle.regular.specs.CheckLaws.{refuses, goes-on}
+use Rattle.regular.specs.InTurnLaws.{refuses, goes-on}
 use Rattle.reading.specs.Columns.{checked-there, checked-entry}
 use Rattle.reading.proofs.entry_number.Statement.{statement}
 use Rattle.reading.proofs.entry_number.Tie as tie

@@ -3,7 +3,7 @@ use Prim.Native.Nat.{_-_}
 use native.Mathlib.Omega.{arith}
 use borrow.Author.Needs.{needs}
 use Rattle.gf2.specs.Answers.{tells-yes}
-use Rattle.reading.specs.Steps.{earlier-there, columns-size, rises-told}
+use Rattle.reading.specs.Steps.{earlier-there, columns-long, rises-told}
 use Rattle.reading.proofs.entry_rises.Statement.{statement}
 use Rattle.reading.proofs.entry_rises.Tie as tie
 
@@ -23,8 +23,8 @@ before-requires : tie.Need-before-requires
 before-requires c κs =
     let s = c .before .before .before .before in
     let a = s .args in
-    let first = columns-size (a .n) (a .book .now) (a .i - 1) (earlier-there (a .n) (a .book .now) (a .i) (s .pre)) (c .before .columns-in .ensures) in
-    let second = columns-size (a .n) (a .book .now) (a .i) (s .pre) (c .columns-in2 .ensures) in
+    let first = columns-long (a .n) (a .book .now) (a .i - 1) (earlier-there (a .n) (a .book .now) (a .i) (s .pre)) (c .before .columns-in .ensures) in
+    let second = columns-long (a .n) (a .book .now) (a .i) (s .pre) (c .columns-in2 .ensures) in
     (omega (arith, first), omega (arith, second))
 
 returns-2 : tie.Need-returns-2

@@ -4,6 +4,15 @@ use Rattle.reading.specs.AnswerLaws.{header-made}
 use Rattle.reading.proofs.header_of.Statement.{statement}
 use Rattle.reading.proofs.header_of.Tie as tie
 
+shared-slice-read-factors : tie.Need-shared-slice-read-factors
+shared-slice-read-factors c = search needs
+
+shared-slice-read-generators : tie.Need-shared-slice-read-generators
+shared-slice-read-generators c = search needs
+
+shared-slice-read-resolution : tie.Need-shared-slice-read-resolution
+shared-slice-read-resolution c = search needs
+
 shared-slice-read-as-index : tie.Need-shared-slice-read-as-index
 shared-slice-read-as-index c = search needs
 
@@ -16,30 +25,24 @@ shared-slice-read-as-index-2 c = search needs
 as-index-requires-2 : tie.Need-as-index-requires-2
 as-index-requires-2 c κs = search needs
 
-shared-slice-read-t5 : tie.Need-shared-slice-read-t5
-shared-slice-read-t5 c = search needs
+cast-count : tie.Need-cast-count
+cast-count c = search needs
 
-shared-slice-read-t9 : tie.Need-shared-slice-read-t9
-shared-slice-read-t9 c = search needs
+mul-count : tie.Need-mul-count
+mul-count c = search needs
 
-shared-slice-read-t11 : tie.Need-shared-slice-read-t11
-shared-slice-read-t11 c = search needs
-
-mul-t12 : tie.Need-mul-t12
-mul-t12 c = search needs
-
-add-t13 : tie.Need-add-t13
-add-t13 c = search needs
+add-count : tie.Need-add-count
+add-count c = search needs
 
 returns : tie.Need-returns
 returns c =
-    let second = c .before .before .before in
-    let first = second .before .before in
-    let a = first .before .before .before .args in
-    header-made (a .book .now) (first .as-index .result) (second .as-index2 .result) (first .as-index .ensures) (second .as-index2 .ensures)
+    let low = c .before .before in
+    let sizes = low .before .before .before in
+    let a = sizes .before .before .before .args in
+    header-made (a .book .now) (low .as-index .result) (c .as-index2 .result) (low .as-index .ensures) (c .as-index2 .ensures)
 
 pub header-of-spec : {M : Type 1} → statement M
 header-of-spec =
     tie.close
-    (tie.spec shared-slice-read-as-index as-index-requires shared-slice-read-as-index-2 as-index-requires-2 shared-slice-read-t5
-    shared-slice-read-t9 shared-slice-read-t11 mul-t12 add-t13 returns)
+    (tie.spec shared-slice-read-factors shared-slice-read-generators shared-slice-read-resolution shared-slice-read-as-index as-index-requires
+    shared-slice-read-as-index-2 as-index-requires-2 cast-count mul-count add-count returns)

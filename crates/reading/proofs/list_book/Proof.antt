@@ -8,8 +8,8 @@ use lib.ListN.{length, getD}
 use Rattle.regular.specs.PlanBytes.{planStart, HasPlan}
 use Rattle.reading.specs.Answers.{EntryThere}
 use Rattle.reading.specs.AnswerLaws.{not-refused, taken-there}
-use Rattle.reading.specs.Filling.{FilledPlans, plan-room, plan-more, plans-none, plans-read}
-use Rattle.reading.specs.Steps.{columns-size}
+use Rattle.reading.specs.Filling.{FilledPlans, plan-room, plan-more, filled-no-plans, plans-read}
+use Rattle.reading.specs.Steps.{columns-long}
 use Rattle.reading.proofs.list_book.Statement.{statement}
 use Rattle.reading.proofs.list_book.Tie as tie
 
@@ -29,7 +29,7 @@ loop-holds : tie.Need-loop-holds Inv-loop μ-loop
 loop-holds c =
     let r = c .before in
     let a = r .before .before .before .args in
-    plans-none (r .reading-plans .result) (a .book .now) (a .out .now)
+    filled-no-plans (r .reading-plans .result) (a .book .now) (a .out .now)
 
 -- a turn: where it starts, and that the entry is there
 module _ (c : tie.Then1 Inv-loop μ-loop) where
@@ -63,7 +63,7 @@ array-of-requires : tie.Need-array-of-requires Inv-loop μ-loop
 array-of-requires c κs =
     let t = c .before in
     let a = start t .args in
-    omega (arith, here t .size, columns-size (turn t .before .as-index .result) (a .book .now) (turn t .loop .i) (here t) (c .columns-in .ensures))
+    omega (arith, here t .size, columns-long (turn t .before .as-index .result) (a .book .now) (turn t .loop .i) (here t) (c .columns-in .ensures))
 
 put-plan-requires : tie.Need-put-plan-requires Inv-loop μ-loop
 put-plan-requires c κs =

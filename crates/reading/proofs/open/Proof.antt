@@ -1,7 +1,7 @@
 -- `reading::open` meets its contract: the header's record, then its sizes. Assumes nothing.
 use borrow.Author.Needs.{needs}
 use Rattle.regular.specs.Book.{headerKind, headerLength}
-use Rattle.reading.specs.Steps.{record-there}
+use Rattle.regular.specs.ReadingLaws.{record-zero}
 use Rattle.reading.specs.AnswerLaws.{opened-other, opened-bounds, opened}
 use Rattle.reading.proofs.open.Statement.{statement}
 use Rattle.reading.proofs.open.Tie as tie
@@ -21,7 +21,7 @@ returns c =
 header-of-requires : tie.Need-header-of-requires
 header-of-requires c κs =
     let s = c .before in
-    record-there headerKind headerLength (s .before .before .args .book .now) 0 (s .record-number .result) (c .if1 .left) (s .record-number .ensures) .1
+    record-zero headerKind headerLength (s .before .before .args .book .now) 0 (s .record-number .result) (c .if1 .left) (s .record-number .ensures) .1
 
 as-index-requires : tie.Need-as-index-requires
 as-index-requires c κs = search needs

@@ -54,7 +54,8 @@ use borrow.Author.Tests.{ltb-true, ltb-false}
 use Rattle.regular.specs.declared.Design.{Design}
 use Rattle.regular.specs.declared.ReadAnswer.{ReadAnswer}
 use Rattle.regular.specs.Designs.{blank, designBytes, offset-fits}
-use Rattle.regular.specs.Reading.{Reading, placesOf, ReadsDesigns}
+use Rattle.regular.specs.Reading.{Reading}
+use Rattle.regular.specs.ReadingAnswers.{placesOf, ReadsDesigns}
 use Rattle.reading.specs.Answers.{Answered, DesignIn}
 use Rattle.reading.specs.Filling.{FilledDesigns, filled-none, filled-place, filled-more, filled-all}
 use Rattle.regular.proofs.Design as T

@@ -3,7 +3,7 @@ use native.Mathlib.Omega.{arith}
 use borrow.Author.Needs.{needs}
 use borrow.Author.Tests.{leb-true, leb-false}
 use lib.Dec.{leb}
-use Rattle.regular.specs.Reading.{placesOf}
+use Rattle.regular.specs.ReadingAnswers.{placesOf}
 use Rattle.reading.specs.AnswerLaws.{answered}
 use Rattle.reading.proofs.reading_designs.Statement.{statement}
 use Rattle.reading.proofs.reading_designs.Tie as tie

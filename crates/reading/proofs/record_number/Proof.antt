@@ -3,7 +3,7 @@ use Prim.Native.Nat.{_<_}
 use native.Mathlib.Omega.{arith}
 use lib.ListN.{length}
 use borrow.Author.Needs.{needs}
-use Rattle.reading.specs.Steps.{record-missing, record-other, record-cut, record-whole}
+use Rattle.regular.specs.ReadingLaws.{record-missing, record-other, record-cut, record-stands}
 use Rattle.reading.proofs.record_number.Statement.{statement}
 use Rattle.reading.proofs.record_number.Tie as tie
 
@@ -34,13 +34,13 @@ returns-3 : tie.Need-returns-3
 returns-3 c =
     let s = c .before .before .before in
     let a = s .before .args in
-    record-cut (a .kind) (a .len) (a .book .now) (a .at) (there s) (c .before .if2 .left) (c .if3 .taken)
+    record-cut (a .kind) (a .len) (a .book .now) (a .at) (there s) (c .before .if2 .left) (omega (arith, there s, c .if3 .taken))
 
 returns-4 : tie.Need-returns-4
 returns-4 c =
     let s = c .before .before .before in
     let a = s .before .args in
-    record-whole (a .kind) (a .len) (a .book .now) (a .at) (there s) (c .before .if2 .left) (omega (arith, c .if3 .left))
+    record-stands (a .kind) (a .len) (a .book .now) (a .at) (there s) (c .before .if2 .left) (omega (arith, there s, c .if3 .left))
 
 pub record-number-spec : {M : Type 1} → statement M
 record-number-spec = tie.close (tie.spec returns shared-slice-read-if2 returns-2 sub-if3 returns-3 returns-4)

@@ -2,16 +2,11 @@
 use Prim.Native.Nat.{ℕ, _<_}
 use mathlib.Core.Path.{_≡_, refl, subst}
 use native.Mathlib.Omega.{arith}
-use Rattle.regular.specs.Refusals.{Lowest}
-use Rattle.regular.specs.RefusalLaws.{lowest-unique}
-use Rattle.regular.specs.Checks.{Check, InTurn}
+use Rattle.regular.specs.InTurn.{Check, InTurn}
 
 -- a judgement of one number
 abbrev pub One : (ℕ → Type 0) → Type 0
 One J = (a b : ℕ) → J a → J b → a ≡ b
-
-pub lowest-one : (fault : ℕ → Type 0) → One (Lowest fault)
-lowest-one fault a b p q = lowest-unique fault a b p q
 
 pub check-one : (number : ℕ) (P : Type 0) → One (Check number P)
 check-one number P a b (Check.holds p) (Check.holds _) = refl
