@@ -10,10 +10,10 @@ use Rattle.regular.specs.Pattern.{ofLength}
 use Rattle.regular.specs.Book.{each, lowFirst, columnsKind, columnsLength, columnsRecord, patternLength, patternKind, patternRecord}
 use Rattle.regular.specs.Book.{entryLength, bookLength, EntryBytes, entryOfColumns}
 use Rattle.regular.specs.InTurn.{Check, InTurn}
+use Rattle.regular.specs.InTurnLaws.{turn-zero, check-zero}
 use Rattle.regular.specs.Reading.{columnsIn, patternPlace, EntryRises, TrueColumns, TruePattern, EntryChecks}
 use Rattle.regular.specs.ReadingLaws.{record-zero, record-stands}
 use Rattle.book.specs.EntryLaws.{columns-bytes}
-use Rattle.regular.specs.InTurnLaws.{turn-zero, check-zero}
 use Rattle.reading_laws.specs.Cuts.{flat, flat-own, cut-left, cut-right}
 
 -- a true entry: it is there, of a smallest form, in order, and its bytes are those of its columns

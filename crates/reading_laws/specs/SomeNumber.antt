@@ -11,10 +11,10 @@ use Rattle.regular.specs.Refusals.{Lowest, sizeFaults}
 use Rattle.regular.specs.Accepted.{size-accepted}
 use Rattle.regular.specs.Book.{headerKind, headerLength, columnsKind, columnsLength, patternKind, patternLength, bookLength}
 use Rattle.regular.specs.InTurn.{Check, InTurn}
+use Rattle.regular.specs.InTurnLaws.{turn-zero, check-zero}
 use Rattle.regular.specs.Reading.{RecordAt, HeaderChecks, factorsIn, generatorsIn, resolutionIn, countIn}
 use Rattle.regular.specs.Reading.{patternPlace, TrueColumns, EntryChecks, EntriesChecks, Reading}
 use Rattle.admission.specs.Faults.{size-1, size-2, bounds-size, bounds-3, bounds-0}
-use Rattle.regular.specs.InTurnLaws.{turn-zero, check-zero}
 use Rattle.reading_laws.specs.Number.{reading-one}
 use Rattle.reading_laws.specs.Decided.{columns-or-not, pattern-or-not}
 

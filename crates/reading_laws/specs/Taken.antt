@@ -17,6 +17,7 @@ use Rattle.regular.specs.Smallest.{Before, Equal}
 use Rattle.regular.specs.Book.{byteValues, each, headerKind, headerLength, header, columnsLength, entryLength, bookLength}
 use Rattle.regular.specs.Book.{BookEntry, entryOfColumns, EntryBytes, Book}
 use Rattle.regular.specs.InTurn.{Check, InTurn}
+use Rattle.regular.specs.InTurnLaws.{turn-zero, check-zero}
 use Rattle.regular.specs.Reading.{factorsIn, generatorsIn, resolutionIn, countIn, columnsIn, EntriesChecks, Reading}
 use Rattle.regular.specs.ReadingAnswers.{Taken}
 use Rattle.regular.specs.ReadingLaws.{record-zero, record-stands}
@@ -25,7 +26,6 @@ use Rattle.smallest_laws.specs.Dictionary.{before-trans, before-equal, equal-be
 use Rattle.smallest_laws.specs.Growth.{plan-equal, entry-equal}
 use Rattle.book.specs.EntryLaws.{columns-same, entry-like}
 use Rattle.book.specs.WritingLaws.{entry-room}
-use Rattle.regular.specs.InTurnLaws.{turn-zero, check-zero}
 use Rattle.reading_laws.specs.Cuts.{each-cut, flat-take}
 use Rattle.reading_laws.specs.Entries.{EntryIn, checks-entry, entry-checks}
 use Rattle.reading_laws.specs.Places.{book-size, book-entry, book-columns}

@@ -7,13 +7,12 @@ use lib.ListN.{length, getD, take}
 use lib.Seq.{take-length}
 use Rattle.regular.specs.Sizes.{Sized}
 use Rattle.regular.specs.Designs.{Holds, blank}
-use Rattle.regular.specs.Refusals.{Lowest}
+use Rattle.regular.specs.Refusals.{LentFault, either, Lowest}
 use Rattle.regular.specs.GivenLaws.{lowest-left}
 use Rattle.regular.specs.PlanBytes.{planStart, planAt, planCount}
 use Rattle.regular.specs.PlanLists.{wantedRecordsFaults, wantedPlansFaults}
 use Rattle.regular.specs.Smallest.{Before, Equal, Entry}
 use Rattle.regular.specs.Book.{bookLength, bookFaults, CountFault, entryOfColumns, Writes, WritesPlans, WritesDesigns}
-use Rattle.regular.specs.Refusals.{LentFault, either}
 use Rattle.regular.specs.Reading.{columnsIn}
 use Rattle.regular.specs.ReadingAnswers.{Taken, Reads, ReadsPlans, placesOf, ReadsDesigns}
 use Rattle.regular.specs.declared.Design.{Design}

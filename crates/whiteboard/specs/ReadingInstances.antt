@@ -13,8 +13,7 @@ use Rattle.regular.specs.Columns.{planOf}
 use Rattle.regular.specs.Pattern.{ofLength}
 use Rattle.regular.specs.PlanBytes.{planAt}
 use Rattle.regular.specs.Reading.{RecordAt, HeaderChecks, columnsIn, EntryRises, TrueColumns, TruePattern, EntryChecks, EntriesChecks, Reading}
-use Rattle.regular.specs.ReadingAnswers.{Taken}
-use Rattle.regular.specs.ReadingAnswers.{refusedBook, placesOf, ReadsPlans}
+use Rattle.regular.specs.ReadingAnswers.{Taken, refusedBook, placesOf, ReadsPlans}
 use Rattle.regular.specs.ReadingLaws.{record-stands}
 use Rattle.regular.specs.RefusalLaws.{lowest-at}
 use Rattle.regular.specs.Refusals.{SizeFault, ResolutionFault, sizeFaults}

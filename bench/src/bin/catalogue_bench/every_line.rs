@@ -1,6 +1,6 @@
 //! Every line that the program `plans` takes: the exported function with room for as many entries as the program lends.
 
-use crate::library::{fill, Size};
+use crate::library::{fill, sizes, Size};
 use crate::timing::{fastest, time};
 
 /// The entries that the program lends.
@@ -10,8 +10,7 @@ const ROOM: usize = 1024;
 const SLOWEST: usize = 10;
 
 fn lines() -> impl Iterator<Item = Size> {
-    let sizes = (1..=16).flat_map(|n| (0..n).map(move |g| (n, g))).filter(|(n, g)| n - g <= 7);
-    sizes.flat_map(|(n, g)| (3..=16).map(move |r| (n, g, r)))
+    sizes().flat_map(|(n, g)| (3..=16).map(move |r| (n, g, r)))
 }
 
 pub fn print() {

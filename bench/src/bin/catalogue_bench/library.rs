@@ -6,6 +6,11 @@ use planner::plan_catalogue;
 /// N, G and R.
 pub type Size = (usize, usize, usize);
 
+/// Every N and G in bounds.
+pub fn sizes() -> impl Iterator<Item = (usize, usize)> {
+    (1..=16).flat_map(|n| (0..n).map(move |g| (n, g))).filter(|(n, g)| n - g <= 7)
+}
+
 /// The refusal of a list that has not enough room.
 const NO_ROOM: u8 = 9;
 

@@ -1,7 +1,7 @@
 //! Books read, against the catalogues that make their entries.
 
-use crate::library::{catalogue, fill, Size};
-use crate::timing::{time, PASSES};
+use crate::library::{catalogue, fill, sizes, Size};
+use crate::timing::{fastest, time, PASSES};
 use planner::{plan_read_book, plan_write_book};
 
 /// The most entries of a book.
@@ -38,7 +38,7 @@ fn written((n, g, r): Size, entries: &[u8]) -> Vec<u8> {
     book
 }
 
-/// Reads the book; answers how many entries it has.
+/// Reads a book that is accepted; answers how many entries it has.
 fn read(book: &[u8], list: &mut [u8]) -> usize {
     let found = plan_read_book(book, list);
     assert_eq!(found.number, 0, "the book is accepted");
@@ -61,6 +61,55 @@ fn print_row(size: Size, entries: &[u8]) {
     println!("| {n} | {g} | {r} | {count} | {} | {:.3} | {:.3} | {:.2} |", book.len(), made * 1e3, reading * 1e3, reading / made);
 }
 
+/// How long each entry takes in a book of its own.
+fn alone(size: Size, entries: &[u8]) -> Vec<f64> {
+    let mut list = vec![0; size.0];
+    let one = |entry: &[u8]| {
+        let book = written(size, entry);
+        fastest(|| assert_eq!(read(&book, &mut list), 1))
+    };
+    entries.chunks(size.0).map(one).collect()
+}
+
+/// The entry that takes longest, of all sizes.
+fn print_slowest_entry() {
+    let (mut count, mut slowest) = (0, (0.0, String::new()));
+    for (n, g) in sizes() {
+        let entries = catalogue((n, g, 3));
+        for (seconds, entry) in alone((n, g, 3), &entries).into_iter().zip(entries.chunks(n)) {
+            count += 1;
+            if seconds > slowest.0 {
+                slowest = (seconds, format!("N {n}, G {g}, columns {entry:?}"));
+            }
+        }
+    }
+    let (seconds, entry) = slowest;
+    println!("\nEvery entry of every size, R 3, in a book of its own, {count} books: the slowest takes {:.1} µs ({entry}).", seconds * 1e6);
+}
+
+/// The book of those entries of the largest catalogue that take longest, in their order, against the making of its first entries.
+fn print_slowest_book(first: &mut [u8]) {
+    let entries = catalogue(LARGEST);
+    let times = alone(LARGEST, &entries);
+    let mut places: Vec<usize> = (0..times.len()).collect();
+    places.sort_by(|&one, &other| times[other].total_cmp(&times[one]));
+    places.truncate(MOST);
+    places.sort();
+    let slow: Vec<u8> = places.iter().flat_map(|&i| &entries[i * LARGEST.0..(i + 1) * LARGEST.0]).copied().collect();
+    let book = written(LARGEST, &slow);
+    let mut list = vec![0; slow.len()];
+    let reading = fastest(|| assert_eq!(read(&book, &mut list), MOST));
+    let made = fastest(|| assert_eq!(fill(LARGEST, first), None));
+    println!(
+        "The book of the {MOST} slowest entries of {} {} {}: {:.0} ms, {:.2} times as long as making the first {MOST}.",
+        LARGEST.0,
+        LARGEST.1,
+        LARGEST.2,
+        reading * 1e3,
+        reading / made
+    );
+}
+
 pub fn print() {
     println!("| N | G | R | entries | bytes | catalogue, ms | reading, ms | reading / catalogue |");
     println!("|---|---|---|---|---|---|---|---|");
@@ -68,4 +117,6 @@ pub fn print() {
     assert_eq!(fill(LARGEST, &mut first), None, "more entries than a book has");
     print_row(LARGEST, &first);
     WHOLE.iter().for_each(|&size| print_row(size, &catalogue(size)));
+    print_slowest_entry();
+    print_slowest_book(&mut first);
 }

@@ -5,8 +5,8 @@ use mathlib.Core.List.{List}
 use native.Mathlib.Omega.{arith}
 use borrow.Author.Needs.{needs}
 use borrow.Author.Tests.{not-true, not-false}
-use Rattle.regular.specs.Reading.{columnsIn, patternPlace}
 use lib.ListN.{length}
+use Rattle.regular.specs.Reading.{columnsIn, patternPlace}
 use Rattle.regular.specs.Pattern.{Pattern}
 use Rattle.regular.specs.Columns.{planOf}
 use Rattle.regular.specs.Given.{ofColumns}
