@@ -15,11 +15,16 @@ use Rattle.regular.specs.Smallest.{Equal, Entry}
 use Rattle.regular.specs.declared.Design.{Design}
 use Rattle.regular.specs.declared.ReadAnswer.{ReadAnswer}
 use Rattle.reading_laws.specs.Taken.{taken-like}
-use Rattle.reading.specs.Answers.{EntryThere, Answered}
+use Rattle.column_tables.specs.Tables.{Apart, column-tables-same}
+use Rattle.entry_test.specs.Testing.{PositiveRising, KeptTables, kept-none}
+use Rattle.reading.specs.Answers.{EntryThere, earlierColumns, Answered}
 use Rattle.whiteboard.specs.PlanInstances.{recordABC, recordABCD, holds-abc, holds-abcd}
 use Rattle.whiteboard.specs.ReadingInstances.{first, second, rising, header-4, judged, read-rising, columnsOf, taken-rising}
 use Rattle.whiteboard.specs.Samples.{abc, abcd}
 use Rattle.whiteboard.specs.Tests.{below, agree-at}
+use Rattle.instances.specs.Searching.{column, marks, sums}
+use Rattle.instances.specs.Walking.{column-tables-1, rising-1}
+use Rattle.instances.specs.Walking as walking
 
 abbrev answer : ReadAnswer
 answer = record { number = 0; factors = 4; generators = 1; resolution = 3; count = 2 }
@@ -73,3 +78,20 @@ answered-rising = record { number = read-rising; refused = λ h. absurd (omega a
 
 pub there-second : EntryThere 4 rising 1
 there-second = record { size = omega arith; few = omega arith; whole = omega arith }
+
+-- the tables that are kept: of no column before the first entry, of one column; two equal columns have none
+pub kept-first : KeptTables (earlierColumns 4 rising 0) (replicate 128 0) (replicate 128 0) (replicate 128 0)
+kept-first = kept-none []
+
+pub kept-1 : KeptTables (1 ∷ []) marks marks sums
+kept-1 = record {
+  few = omega arith;
+  apart = λ i j h l. absurd (omega arith);
+  tables = column-tables-same column (1 ∷ []) 1 (walking.first (λ i. getD (1 ∷ []) i 0 ≡ getD column i 0) refl) marks marks sums column-tables-1;
+}
+
+pub not-apart : Apart 2 (1 ∷ 1 ∷ []) → ⊥
+not-apart p = p 0 1 (omega arith) (omega arith) refl
+
+pub positive-1 : PositiveRising 1 column
+positive-1 = record { above = rising-1 .above; rising = rising-1 .rising }

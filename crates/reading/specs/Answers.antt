@@ -1,8 +1,8 @@
 -- What the steps of the reader answer. Definitions only.
-use Prim.Native.Nat.{ℕ, _+_, _*_, _-_, _/_, _%_, _≤_, _<_}
+use Prim.Native.Nat.{ℕ, zero, suc, _+_, _*_, _-_, _/_, _%_, _≤_, _<_}
 use mathlib.Core.Path.{_≡_}
 use mathlib.Core.Bool.{Bool, true, false}
-use mathlib.Core.List.{List}
+use mathlib.Core.List.{List, []}
 use lib.ListN.{length, getD}
 use Rattle.regular.specs.Book.{byteValues, columnsLength, bookLength, mostPlans}
 use Rattle.regular.specs.Pattern.{ofLength}
@@ -16,6 +16,11 @@ pub record EntryThere (n : ℕ) (book : List ℕ) (i : ℕ) : Type 0 where
   pub size : n ≤ 16
   pub few : i ≤ mostPlans
   pub whole : bookLength n i + columnsLength n ≤ length book
+
+-- the columns of the entry before entry i; none if it is the first
+abbrev pub earlierColumns : ℕ → List ℕ → ℕ → List ℕ
+earlierColumns n book zero = []
+earlierColumns n book (suc j) = columnsIn n book j
 
 -- a number of 16 bits stands at a place, low byte first
 abbrev pub NumberAt : ℕ → List ℕ → ℕ → Type 0

@@ -1,6 +1,6 @@
 -- Laws of the reader's steps: where the columns of an entry stand, their order, the counts of a pattern.
-use Prim.Native.Nat.{ℕ, suc, _+_, _*_, _-_, _≤_, _<_}
-use mathlib.Core.Path.{_≡_, sym, ap, ap₂, subst₂, _∙_}
+use Prim.Native.Nat.{ℕ, zero, suc, _+_, _*_, _-_, _≤_, _<_}
+use mathlib.Core.Path.{_≡_, refl, sym, ap, ap₂, subst₂, _∙_}
 use mathlib.Core.Logic.{inr, by-cases}
 use mathlib.Core.Bool.{Bool}
 use mathlib.Core.List.{List}
@@ -16,7 +16,7 @@ use Rattle.regular.specs.Reading.{columnsIn, EntryRises}
 use Rattle.regular.specs.Smallest.{Before}
 use Rattle.smallest_laws.specs.Dictionary.{not-both}
 use Rattle.reading_laws.specs.Entries.{columns-size}
-use Rattle.reading.specs.Answers.{EntryThere, NumberAt, CountsAt}
+use Rattle.reading.specs.Answers.{EntryThere, earlierColumns, NumberAt, CountsAt}
 
 -- two lists of columns where they first differ
 pub differ-told : (n at : ℕ) (c d : List ℕ) → at < n → ((g : ℕ) → g < at → getD c g 0 ≡ getD d g 0) → (getD c at 0 ≡ getD d at 0 → ⊥)
@@ -41,6 +41,10 @@ earlier-there n book i t = record {
   few = omega (arith, t .few);
   whole = omega (arith, t .whole, mul-le-mul-right {m = i - 1} {n = i} (entryLength n) (omega arith));
 }
+
+pub earlier-last : (n : ℕ) (book : List ℕ) (i : ℕ) → (i ≡ 0 → ⊥) → columnsIn n book (i - 1) ≡ earlierColumns n book i
+earlier-last n book zero ne = absurd (ne refl)
+earlier-last n book (suc j) ne = let last : suc j - 1 ≡ j = omega arith in ap (columnsIn n book) last
 
 pub columns-long : (n : ℕ) (book : List ℕ) (i : ℕ) → EntryThere n book i → {c : List ℕ} → c ≡ columnsIn n book i → length c ≡ n
 columns-long n book i t {c} e = ap length e ∙ columns-size n book i (t .whole)

@@ -9,7 +9,8 @@ ghost use Rattle.regular.specs.PlanBytes.{planStart};
 ghost use Rattle.regular.specs.Book.{headerLength, mostPlans};
 ghost use Rattle.regular.specs.Reading.{RecordAt, HeaderChecks, columnsIn, EntryRises, ColumnsChecks, PatternChecks, EntryChecks, EntriesChecks, Reading};
 ghost use Rattle.regular.specs.ReadingAnswers.{refusedBook, ReadsPlans, placesOf, ReadsDesigns};
-ghost use Rattle.reading.specs.Answers.{EntryThere, NumberAt, CountsAt, HeaderRead, Answered, Judged, DesignIn};
+ghost use Rattle.entry_test.specs.Testing.{KeptTables};
+ghost use Rattle.reading.specs.Answers.{EntryThere, earlierColumns, NumberAt, CountsAt, HeaderRead, Answered, Judged, DesignIn};
 use admission::array_of;
 use admission::bounds_number;
 use bits::as_index;
@@ -20,11 +21,14 @@ use book_layout::HEADER_LENGTH;
 use book_layout::PATTERN_KIND;
 use book_layout::book_length;
 use book_layout::pattern_length;
-use entry_test::is_entry;
+use column_tables::FactorSets;
+use column_tables::Table;
+use entry_test::is_entry_after;
 use plan_layout::plan_start;
 use plan_layout::put_plan;
 use regular::Design;
 use regular::FACTORS;
+use regular::NUMBERS;
 use regular::ReadAnswer;
 
 // 10 or 11 if no whole record of this kind and length stands at a place.
@@ -51,6 +55,17 @@ fn columns_in(n: usize, book: &[u8], i: usize) -> &[u8]
     let start = book_length(n, i) + 1;
     let end = start + n;
     &book[start..end]
+}
+
+// The columns of the entry before entry i; none if it is the first.
+fn earlier_columns(n: usize, book: &[u8], i: usize) -> &[u8]
+    requires { ⌜ EntryThere n (now book) i ⌝ }
+    ensures { λ r. ⌜ now r ≡ earlierColumns n (now (book .entry)) i ⌝ }
+{
+    if i == 0 {
+        return &book[..0];
+    }
+    columns_in(n, book, i - 1)
 }
 
 // Whether n columns come before others in dictionary order.
@@ -81,16 +96,28 @@ fn entry_rises(n: usize, book: &[u8], i: usize) -> bool
     before(n, columns_in(n, book, i - 1), columns_in(n, book, i))
 }
 
-// The number of entry i's columns.
-fn columns_number(n: usize, g: usize, r: usize, book: &[u8], i: usize) -> u8
-    requires { ⌜ Sized n g r × (i ≤ mostPlans) ⌝ }
-    ensures { λ k. ⌜ ColumnsChecks n g r (now (book .entry)) i k ⌝ }
+// The number of entry i's columns. The tables are those of the entry before; if the columns are true, they become theirs.
+fn columns_number(
+    n: usize,
+    g: usize,
+    r: usize,
+    book: &[u8],
+    i: usize,
+    a: &mut Table,
+    factors: &mut FactorSets,
+    sums: &mut FactorSets,
+) -> u8
+    requires { ⌜ Sized n g r × (i ≤ mostPlans) × KeptTables (earlierColumns n (now book) i) (now a) (now factors) (now sums) ⌝ }
+    ensures { λ k. ⌜ ColumnsChecks n g r (now (book .entry)) i k
+        × (k ≡ 0 → KeptTables (columnsIn n (now (book .entry)) i) (now (a .exit)) (now (factors .exit)) (now (sums .exit))) ⌝ }
 {
     let number = record_number((COLUMNS_KIND + n) as u8, 1 + n, book, book_length(n, i));
     if number != 0 {
         return number;
     }
-    if !is_entry(n, g, r, columns_in(n, book, i)) {
+    let earlier = earlier_columns(n, book, i);
+    let columns = columns_in(n, book, i);
+    if !is_entry_after(n, g, r, earlier, columns, a, factors, sums) {
         return 12;
     }
     if !entry_rises(n, book, i) {
@@ -149,12 +176,22 @@ fn pattern_number(n: usize, g: usize, book: &[u8], i: usize) -> u8
     0
 }
 
-// The number of entry i.
-fn entry_number(n: usize, g: usize, r: usize, book: &[u8], i: usize) -> u8
-    requires { ⌜ Sized n g r × (i ≤ mostPlans) ⌝ }
-    ensures { λ k. ⌜ EntryChecks n g r (now (book .entry)) i k ⌝ }
+// The number of entry i. The tables are those of the entry before; if it is true, they become its own.
+fn entry_number(
+    n: usize,
+    g: usize,
+    r: usize,
+    book: &[u8],
+    i: usize,
+    a: &mut Table,
+    factors: &mut FactorSets,
+    sums: &mut FactorSets,
+) -> u8
+    requires { ⌜ Sized n g r × (i ≤ mostPlans) × KeptTables (earlierColumns n (now book) i) (now a) (now factors) (now sums) ⌝ }
+    ensures { λ k. ⌜ EntryChecks n g r (now (book .entry)) i k
+        × (k ≡ 0 → KeptTables (columnsIn n (now (book .entry)) i) (now (a .exit)) (now (factors .exit)) (now (sums .exit))) ⌝ }
 {
-    let number = columns_number(n, g, r, book, i);
+    let number = columns_number(n, g, r, book, i, a, factors, sums);
     if number != 0 {
         return number;
     }
@@ -166,9 +203,12 @@ fn entries_number(n: usize, g: usize, r: usize, count: usize, book: &[u8]) -> u8
     requires { ⌜ Sized n g r × (count ≤ mostPlans) ⌝ }
     ensures { λ k. ⌜ EntriesChecks n g r (now (book .entry)) 0 count k ⌝ }
 {
+    let mut a = [0u8; NUMBERS];
+    let mut factors = [0u16; NUMBERS];
+    let mut sums = [0u16; NUMBERS];
     let mut i: usize = 0;
     while i < count {
-        let number = entry_number(n, g, r, book, i);
+        let number = entry_number(n, g, r, book, i, &mut a, &mut factors, &mut sums);
         if number != 0 {
             return number;
         }
