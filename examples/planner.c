@@ -14,7 +14,7 @@ static const char usage[] =
     "planner compare N G COLUMNS COLUMNS   whether two plans are the same, by columns\n"
     "planner tables N G RUNS RUNS          whether two plans are the same, by run tables\n"
     "planner smallest N G R COLUMNS        a plan's smallest form, and its place in the catalogue\n"
-    "planner catalogue N G R               every plan of a size: columns, words, pattern\n"
+    "planner catalogue N G R               every plan of a size: resolution, columns, words, pattern\n"
     "planner runs N G R PLACE              the run table of an entry: + is high, - low\n"
     "planner book N G R FILE               the catalogue as a book, in a file\n"
     "planner read FILE                     what a book has, or why it is refused\n"
@@ -177,13 +177,15 @@ static struct plan_entries catalogue(size_t n, size_t g, size_t r)
     return plan_catalogue(n, g, r, entries, sizeof entries);
 }
 
-/* An entry's line: place, columns, words and the pattern from length 3 on. */
+/* An entry's line: place, resolution, columns, words and the pattern from length 3 on. */
 static void print_entry(size_t n, size_t g, size_t place, const uint8_t *columns)
 {
+    uint8_t resolution;
     uint16_t words[PLAN_FACTORS], pattern[PLAN_FACTORS];
+    plan_resolution_of_columns(n, g, columns, n, &resolution, 1);
     plan_words_of_columns(n, g, columns, n, words, PLAN_FACTORS);
     plan_pattern_of_columns(n, g, columns, n, pattern, PLAN_FACTORS);
-    printf("%zu columns", place);
+    printf("%zu res %u columns", place, resolution);
     print_bytes(columns, n);
     printf(" words");
     for (size_t i = 0; i < g; i++) {

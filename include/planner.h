@@ -33,7 +33,7 @@
 #include <stddef.h>
 #include <stdint.h>
 
-#define PLANNER_VERSION "0.2.1"
+#define PLANNER_VERSION "0.3.0"
 
 /* The most factors, basic factors and runs that a plan may have. So many places are enough for any list that a call on one or two plans fills.
  * Distance counts need one more than PLAN_FACTORS. Catalogues, books and several plans need more. */
@@ -96,7 +96,8 @@ uint8_t plan_pattern_of_words(size_t n, size_t g, const uint16_t *words, size_t 
 uint8_t plan_pattern_of_columns(size_t n, size_t g, const uint8_t *columns, size_t column_count, uint16_t *pattern, size_t places);
 uint8_t plan_pattern_of_runs(size_t n, size_t g, const uint16_t *runs, size_t run_count, uint16_t *pattern, size_t places);
 
-/* The resolution: the length of the shortest word. It is 0 for a full factorial (G = 0), which has no words. 1 place. */
+/* The resolution: the length of the shortest word. A full factorial (G = 0) has no words: its resolution is N + 1, above that of every other
+ * plan of N factors. No plan has resolution 0: a place that is 0 before the call is 0 after it exactly if the call was refused. 1 place. */
 uint8_t plan_resolution_of_words(size_t n, size_t g, const uint16_t *words, size_t word_count, uint8_t *resolution, size_t places);
 uint8_t plan_resolution_of_columns(size_t n, size_t g, const uint8_t *columns, size_t column_count, uint8_t *resolution, size_t places);
 uint8_t plan_resolution_of_runs(size_t n, size_t g, const uint16_t *runs, size_t run_count, uint8_t *resolution, size_t places);
@@ -183,9 +184,10 @@ uint8_t plan_smallest_of_plans(size_t n, size_t g, const uint8_t *plans, size_t 
                                uint8_t *witnesses, size_t witness_places);
 
 /* The catalogue for N, G and R. It holds every smallest form of N factors and G generators whose words all have at least R letters. A full
- * factorial has no words. The entries stand in dictionary order: the earlier of two entries has the smaller column where they first differ. So
- * each plan of this size without a word below R is the same as exactly one entry. The lent list takes the entries one after another, N bytes
- * each. It has room for places / N of them, rounded down. The answer is a number and how many entries the list holds:
+ * factorial has no words. So it is an entry for every R, even where its resolution N + 1 is below R. The entries stand in dictionary order: the
+ * earlier of two entries has the smaller column where they first differ. So each plan of this size without a word below R is the same as exactly
+ * one entry. The lent list takes the entries one after another, N bytes each. It has room for places / N of them, rounded down. The answer is a
+ * number and how many entries the list holds:
  *   PLAN_ACCEPTED            all of them, 0 if there is none. The places past them are untouched
  *   PLAN_REFUSED_ROOM        the first ones, as many as there is room for. Any bytes past them are untouched
  *   PLAN_REFUSED_FACTORS,

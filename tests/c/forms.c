@@ -50,6 +50,7 @@ static void print_shorts(const char *call, uint8_t answer)
 static const uint8_t small_columns[] = {1, 2, 3};
 static const uint16_t small_runs[] = {0, 5, 6, 3};
 static const uint16_t small_words[] = {7};
+static const uint16_t full_runs[] = {2, 0, 3, 1};
 
 static void print_small(void)
 {
@@ -64,6 +65,8 @@ static void print_small(void)
     print_shorts("distances of word ABC", plan_distances_of_words(3, 1, small_words, 1, shorts, PLACES));
     print_bytes("columns of no words", plan_columns_of_words(3, 0, small_words, 0, bytes, PLACES));
     print_bytes("resolution of no words", plan_resolution_of_words(3, 0, small_words, 0, bytes, PLACES));
+    print_bytes("resolution of column 1", plan_resolution_of_columns(1, 0, small_columns, 1, bytes, PLACES));
+    print_bytes("resolution of runs 2 0 3 1", plan_resolution_of_runs(2, 0, full_runs, 4, bytes, PLACES));
 }
 
 /* P: ABCD, CDEF, ACEGHJ. Q: ABCD, AEFG, BEHJ. */

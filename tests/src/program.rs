@@ -72,7 +72,7 @@ fn entry_line(m: usize, place: usize, entry: &[u32]) -> String {
     let after_spaces = |numbers: &[u32]| numbers.iter().map(|number| format!(" {number}")).collect::<String>();
     let counts = pattern(n, &words);
     let counts = after_spaces(counts.get(2..).unwrap_or(&[]));
-    format!("{place} res {} columns{} pattern{counts}\n", resolution(&words), after_spaces(entry))
+    format!("{place} res {} columns{} pattern{counts}\n", resolution(n, &words), after_spaces(entry))
 }
 
 /// The whole of what the program prints for a size whose catalogue this is.

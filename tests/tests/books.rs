@@ -10,9 +10,11 @@ use plan_tests::samples::{columns, sample};
 
 /// The resolution that a plan without a word below it can be wanted with: at least 3, at most 16.
 fn most_wanted(n: usize, m: usize, plan: &[u32]) -> usize {
-    match resolution(&Plan::new(n, n - m, Form::Columns, plan).words) {
-        0 => 16,
-        shortest => shortest as usize,
+    let words = Plan::new(n, n - m, Form::Columns, plan).words;
+    if words.is_empty() {
+        16
+    } else {
+        resolution(n, &words) as usize
     }
 }
 

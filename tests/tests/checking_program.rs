@@ -126,11 +126,12 @@ fn generated_plans_meet_every_word_in_an_even_number_of_low_levels() {
 }
 
 #[test]
-fn a_full_factorial_has_resolution_0_and_no_words() {
+fn a_full_factorial_of_n_factors_has_resolution_n_plus_1_and_no_words() {
     let plan = Plan::new(3, 0, Form::Words, &[]);
     assert_eq!(plan.answer(Question::Columns), [1, 2, 4]);
     assert_eq!(plan.answer(Question::Pattern), [0, 0, 0]);
-    assert_eq!(resolution(&plan.words), 0);
+    assert_eq!(plan.answer(Question::Resolution), [4]);
+    assert_eq!(resolution(1, &[]), 2);
 }
 
 #[test]

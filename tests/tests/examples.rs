@@ -87,13 +87,13 @@ fn document_000s_example_2_prefers_its_first_design() {
 }
 
 #[test]
-fn a_full_factorial_has_standard_columns_resolution_0_and_all_runs() {
+fn a_full_factorial_of_3_factors_has_standard_columns_resolution_4_and_all_runs() {
     let mut columns = [99; 3];
     assert_eq!(plan_columns_of_words(3, 0, &[], &mut columns), 0);
     assert_eq!(columns, [1, 2, 4]);
     let mut resolution = [99];
     assert_eq!(plan_resolution_of_words(3, 0, &[], &mut resolution), 0);
-    assert_eq!(resolution, [0]);
+    assert_eq!(resolution, [4]);
     let mut runs = [99; 8];
     assert_eq!(plan_runs_of_columns(3, 0, &[1, 2, 4], &mut runs), 0);
     assert_eq!(runs, [0, 1, 2, 3, 4, 5, 6, 7]);

@@ -36,10 +36,17 @@ fn the_example_of_document_01() {
 
 #[test]
 fn a_line_of_fewer_than_three_factors_ends_with_the_word_pattern() {
-    compare_line("1 0 3", "catalogue 1 0 3 entries 1\n1 res 0 columns 1 pattern\n");
-    compare_line("2 0 16", "catalogue 2 0 16 entries 1\n1 res 0 columns 1 2 pattern\n");
-    compare_line("3 0 3", "catalogue 3 0 3 entries 1\n1 res 0 columns 1 2 4 pattern 0\n");
+    compare_line("1 0 3", "catalogue 1 0 3 entries 1\n1 res 2 columns 1 pattern\n");
+    compare_line("2 0 16", "catalogue 2 0 16 entries 1\n1 res 3 columns 1 2 pattern\n");
+    compare_line("3 0 3", "catalogue 3 0 3 entries 1\n1 res 4 columns 1 2 4 pattern 0\n");
     compare_line("2 1 3", "catalogue 2 1 3 entries 0\n");
+}
+
+#[test]
+fn a_full_factorial_keeps_its_entry_where_r_is_above_its_resolution() {
+    compare_line("3 0 5", "catalogue 3 0 5 entries 1\n1 res 4 columns 1 2 4 pattern 0\n");
+    compare_line("1 0 16", "catalogue 1 0 16 entries 1\n1 res 2 columns 1 pattern\n");
+    compare_line("7 0 16", "catalogue 7 0 16 entries 1\n1 res 8 columns 1 2 4 8 16 32 64 pattern 0 0 0 0 0\n");
 }
 
 #[test]
@@ -111,7 +118,7 @@ fn a_number_of_two_digits_may_begin_with_0() {
     for line in ["05 1 3", "5 01 3", "5 1 03", "05 01 03"] {
         compare_line(line, EXAMPLE);
     }
-    compare_line("5 00 3", "catalogue 5 0 3 entries 1\n1 res 0 columns 1 2 4 8 16 pattern 0 0 0\n");
+    compare_line("5 00 3", "catalogue 5 0 3 entries 1\n1 res 6 columns 1 2 4 8 16 pattern 0 0 0\n");
     for (line, number) in [("00 0 3", 1), ("00 00 00", 1), ("05 05 3", 2), ("5 1 00", 3), ("5 1 02", 3)] {
         compare_line(line, &format!("refused {number}\n"));
     }

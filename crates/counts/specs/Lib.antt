@@ -7,3 +7,4 @@ pub mod Resolutions
 pub mod ShortWords
 pub mod Distances
 pub mod PlanCounts
+pub mod FullFactorials

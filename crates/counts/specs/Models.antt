@@ -19,10 +19,10 @@ pub record PatternModel (n g : ℕ) (ws p : List ℕ) : Type 0 where
   pub counts : (l : ℕ) → 1 ≤ l → l ≤ n → ofLength p l ≡ products g ws l
   pub unused : (i : ℕ) → n ≤ i → getD p i 0 ≡ 0
 
--- the first length of 1 to n with a count above 0, or 0
+-- the first length of 1 to n with a count above 0, or n + 1
 unfoldable pub firstLength : ℕ → List ℕ → ℕ
-firstLength zero p = 0
-firstLength (suc n) p = let r = firstLength n p in pick (eqb r 0) (pick (eqb (getD p n 0) 0) 0 (suc n)) r
+firstLength zero p = 1
+firstLength (suc n) p = let r = firstLength n p in pick (eqb r (suc n)) (pick (eqb (getD p n 0) 0) (suc r) r) r
 
 -- d has at place i, from 0 to n, the number of runs of i low levels among the first `end`, and 0 past them
 pub record DistanceModel (n end : ℕ) (runs d : List ℕ) : Type 0 where

@@ -24,15 +24,18 @@ module _ (n m : ℕ) (s : Runs) (a : List ℕ) (st : StandardFor n m s a) where
   pub plan-pattern-sum : (p : List ℕ) → Pattern n s p → sumTo n p ≡ 2 ^ (n - m) - 1
   plan-pattern-sum p h = pattern-sum n (n - m) s (wordsTo a n) p (words-generators n m s a st) h
 
+-- a plan whose columns are those of the plan with the factors in v switched
+pub switched-words : (n m v : ℕ) (s : Runs) (a : List ℕ) → StandardFor n m (switched v s) a → Count (Word n s) (2 ^ (n - m) - 1)
+switched-words n m v s a st =
+    count-same (Word n (switched v s)) (Word n s) (2 ^ (n - m) - 1) (word-switched-back n v s) (word-switched n v s) (plan-words n m (switched v s) a st)
+
 -- a regular table, in any order of runs, with any levels switched
 module _ (n m : ℕ) (t : List ℕ) (tab : Table n m t) where
   abbrev plan : Runs
   plan = switched (getD t 0 0) (runsOf t)
 
   pub table-words : Count (Word n (runsOf t)) (2 ^ (n - m) - 1)
-  table-words =
-      count-same (Word n plan) (Word n (runsOf t)) (2 ^ (n - m) - 1) (word-switched-back n (getD t 0 0) (runsOf t)) (word-switched n (getD t 0 0) (runsOf t))
-      (plan-words n m plan (standard t n) (table-standard n m t tab))
+  table-words = switched-words n m (getD t 0 0) (runsOf t) (standard t n) (table-standard n m t tab)
 
   pub table-pattern-sum : (p : List ℕ) → Pattern n (runsOf t) p → sumTo n p ≡ 2 ^ (n - m) - 1
   table-pattern-sum p h =

@@ -3,7 +3,7 @@ use mathlib.Core.Path.{_≡_, refl, sym, ap, subst, _∙_}
 use mathlib.Core.Logic.{by-cases}
 use mathlib.Core.Bool.{true, false}
 use mathlib.Core.List.{List}
-use Prim.Native.Nat.{ℕ, zero, suc, _+_, _-_, _*_, _%_, _^_, _≤_, _<_}
+use Prim.Native.Nat.{ℕ, suc, _+_, _-_, _*_, _%_, _^_, _≤_, _<_}
 use native.Mathlib.Nat.{two-pow-succ}
 use native.Mathlib.Numerals.{add-one}
 use native.Mathlib.Omega.{arith}
@@ -16,9 +16,7 @@ use lib.Pow.{pow-mono, shl-exact}
 use lib.Seq.{getD-set-same, getD-set-other}
 use Rattle.gf2.specs.Doubling.{Doubling}
 use Rattle.gf2.specs.Fill.{zeros}
-use Rattle.counts.specs.Models.{PatternModel, DistanceModel, firstLength}
-use Rattle.counts.specs.Resolutions.{first-none, first-here, first-kept}
-use Rattle.counts.specs.ShortWords.{CountBelow}
+use Rattle.counts.specs.Models.{PatternModel, DistanceModel}
 use Rattle.counts.specs.Tally.{tally, tally-start, tally-hit, tally-miss, tally-le, tally-same}
 use Rattle.regular.specs.Pattern.{Better, ofLength}
 use Rattle.regular.specs.Words.{letters, total}
@@ -116,26 +114,6 @@ pattern-model n g end ws sums counts p h e a b f =
 pub distance-model : (end : ℕ) (runs d : List ℕ) → LettersCounted end runs d → DistanceModel 16 end runs d
 distance-model end runs d c = record { counts = c .count; unused = λ i l. List·getD-eq-default d 0 {n = i} (omega (arith, c .places)) }
 
--- the first length
-first-stays : (p : List ℕ) (i d : ℕ) → (firstLength i p ≡ 0 → ⊥) → firstLength (d + i) p ≡ firstLength i p
-first-stays p i zero h = let e : 0 + i ≡ i = omega arith in ap (λ (k : ℕ). firstLength k p) e
-first-stays p i (suc d) h =
-    let e : suc d + i ≡ suc (d + i) = omega arith in
-    let ih = first-stays p i d h in
-    ap (λ (k : ℕ). firstLength k p) e ∙ first-kept (d + i) p (λ z. h (sym ih ∙ z)) ∙ ih
-
-pub first-found : (p : List ℕ) (i n : ℕ) → i < n → firstLength i p ≡ 0 → (getD p i 0 ≡ 0 → ⊥) → i + 1 ≡ firstLength n p
-first-found p i n h e z =
-    let f = first-here i p e z in
-    let k : n ≡ (n - suc i) + suc i = omega arith in
-    add-one i ∙ sym (ap (λ (j : ℕ). firstLength j p) k ∙ first-stays p (suc i) (n - suc i) (λ o. omega arith) ∙ f)
-
-pub first-next : (p : List ℕ) (i : ℕ) → firstLength i p ≡ 0 → getD p i 0 ≡ 0 → firstLength (i + 1) p ≡ 0
-first-next p i e z = ap (λ (k : ℕ). firstLength k p) (add-one i) ∙ first-none i p e z
-
-pub first-over : (p : List ℕ) (i n : ℕ) → i ≤ n → n ≤ i → firstLength i p ≡ 0 → 0 ≡ firstLength n p
-first-over p i n a b e = let k : i ≡ n = omega arith in sym e ∙ ap (λ (j : ℕ). firstLength j p) k
-
 -- the first difference
 module _ (m : ℕ) (p q : List ℕ) (l : ℕ) (from : 3 ≤ l) (same : (k : ℕ) → k < l → 3 ≤ k → ofLength p k ≡ ofLength q k) where
   pub better-at : l ≤ m → (ofLength p l ≡ ofLength q l → ⊥)
@@ -155,14 +133,6 @@ module _ (m : ℕ) (p q : List ℕ) (l : ℕ) (from : 3 ≤ l) (same : (k : ℕ)
   pub better-none : m < l → Better m p q → ⊥
   better-none h b = omega (arith, same (b .at) (omega (arith, b .to)) (b .from), b .fewer)
 
--- the lengths that are looked at for a word of fewer than r letters: none up to i has a count; length i + 1 has one, or none
-pub below-found : {n r i : ℕ} (p : List ℕ) → i < n → i + 1 < r → 0 < getD p i 0 → CountBelow n r p
-below-found {n} {r} {i} p l more some =
-    let e : i + 1 - 1 ≡ i = omega arith in
-    (i + 1, (omega arith, (omega arith, (more, omega (arith, some, ap (λ (k : ℕ). getD p k 0) e)))))
-
-pub below-next : {i : ℕ} (p : List ℕ) → ((l : ℕ) → 1 ≤ l → l ≤ i → ofLength p l ≡ 0) → getD p i 0 ≤ 0 → (l : ℕ) → 1 ≤ l → l ≤ i + 1 → ofLength p l ≡ 0
-below-next {i} p none z l some most =
-    by-cases (ℕ-discrete l (i + 1))
-    (λ e. let q : l - 1 ≡ i = omega arith in omega (arith, ap (λ (k : ℕ). getD p k 0) q))
-    (λ ne. none l some (omega arith))
+-- one length more without a count
+pub none-next : {l : ℕ} (p : List ℕ) → ((k : ℕ) → 1 ≤ k → k < l → ofLength p k ≡ 0) → ofLength p l ≡ 0 → (k : ℕ) → 1 ≤ k → k < l + 1 → ofLength p k ≡ 0
+none-next {l} p none z k some few = by-cases (ℕ-discrete k l) (λ e. ap (ofLength p) e ∙ z) (λ ne. none k some (omega arith))

@@ -84,35 +84,35 @@ pub fn pattern_of(n: usize, g: usize, words: [u16; FACTORS]) -> [u16; FACTORS]
     from_one(n, counts)
 }
 
-// The resolution from the pattern: the first length with a word, 0 if there is none.
+// The resolution from the pattern: the first length with a word, n + 1 if there is none.
 pub fn resolution_of(n: usize, pattern: [u16; FACTORS]) -> u8
     requires { ⌜ n ≤ 16 ⌝ }
     ensures { λ r. ⌜ r ≡ firstLength n pattern ⌝ }
 {
-    let mut i: usize = 0;
-    while i < n {
-        if pattern[i] != 0 {
-            return (i + 1) as u8;
+    let mut l: usize = 1;
+    while l <= n {
+        if pattern[l - 1] != 0 {
+            return l as u8;
         }
-        i += 1;
+        l += 1;
     }
-    0
+    (n + 1) as u8
 }
 
-// Whether some word has fewer than r letters.
+// Whether some word has fewer than r letters. No word has more than n: a plan without words has none below r, also where its resolution n + 1 is.
 pub fn word_below(n: usize, r: usize, pattern: [u16; FACTORS]) -> bool
     requires { ⌜ n ≤ 16 ⌝ }
     ensures { λ res. ⌜ Tells res (CountBelow n r pattern) (NoneBelow n r pattern) ⌝ }
 {
-    let mut i: usize = 0;
-    while i < n {
-        if r <= i + 1 {
+    let mut l: usize = 1;
+    while l < r {
+        if n < l {
             return false;
         }
-        if 0 < pattern[i] {
+        if 0 < pattern[l - 1] {
             return true;
         }
-        i += 1;
+        l += 1;
     }
     false
 }

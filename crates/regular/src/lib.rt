@@ -33,7 +33,7 @@ pub struct RunsAnswer {
     pub runs: [u16; RUNS],
 }
 
-// A refusal's number, 0 if accepted, and the resolution; 0 if refused.
+// A refusal's number, 0 if accepted, and the resolution; 0 if refused, which no plan has.
 pub struct ResolutionAnswer {
     pub number: u8,
     pub resolution: u8,

@@ -22,9 +22,10 @@ use Rattle.regular.specs.declared.Compared.{Compared}
 use Rattle.regular.specs.declared.Checked.{Checked}
 use Rattle.isomorphism_laws.specs.Moving.{carries-names}
 use Rattle.whiteboard.specs.ListTests.{among, not-among}
-use Rattle.whiteboard.specs.PlanInstances.{runsABC, disguised, witness-disguised, pattern-abc, pattern-abcd, less-abcd, not-less, different-abc-abcd}
+use Rattle.whiteboard.specs.PlanInstances.{runsABC, disguised, witness-disguised, pattern-abc, pattern-abcd, resolution-full}
+use Rattle.whiteboard.specs.PlanInstances.{less-abcd, not-less, different-abc-abcd}
 use Rattle.whiteboard.specs.RefusalInstances.{refusal-7, refusal-8, refused-runs, accepted-disguised, accepted-columns}
-use Rattle.whiteboard.specs.RefusalInstances.{accepted-abcd, accepted-words, accepted-word-abcd, accepted-runs}
+use Rattle.whiteboard.specs.RefusalInstances.{accepted-abcd, accepted-words, accepted-word-abcd, accepted-no-words, accepted-runs}
 use Rattle.whiteboard.specs.Samples.{abc, abcd, words-abc}
 use Rattle.whiteboard.specs.Tests.{below, agree-at}
 use Rattle.whiteboard.specs.Whiteboard.{wordsP, wordsQ, whiteboard}
@@ -36,9 +37,12 @@ start-disguised = refl
 pub not-start : ofRuns 4 1 disguised .start 0 → ⊥
 not-start e = omega (arith, e)
 
--- a number and a value: the resolution of ABC, and of AB, which is refused
+-- a number and a value: the resolution of ABC, of no words, and of AB, which is refused
 pub gives-resolution : ResolutionOf 4 (ofWords 4 1 (7 ∷ [])) 0 3
 gives-resolution = record { number = accepted-words; refused = λ h. absurd (omega arith); result = λ e. words-abc .resolution }
+
+pub gives-full : ResolutionOf 3 (ofWords 3 0 []) 0 4
+gives-full = record { number = accepted-no-words; refused = λ h. absurd (omega arith); result = λ e. resolution-full }
 
 pub gives-refused : ResolutionOf 3 (ofWords 3 1 (3 ∷ [])) 7 0
 gives-refused = record { number = refusal-7; refused = λ h. refl; result = λ e. absurd (omega arith) }
@@ -126,7 +130,7 @@ differ-at =
     alike k h l = agree-at (λ i. getD (0 ∷ 0 ∷ 1 ∷ 0 ∷ []) i 0) (λ i. getD (0 ∷ 0 ∷ 0 ∷ 1 ∷ []) i 0) 2 refl (k - 1) (omega arith)
 
 pub differ-nowhere : Differ 9 (Generated 9 3 wordsP) (Generated 9 3 wordsQ) 0
-differ-nowhere = whiteboard .1 .1 .1 .1 .1 .1 .1 .0 .length
+differ-nowhere = whiteboard .1 .1 .1 .1 .1 .1 .1 .1 .1 .0 .length
 
 abbrev pub namesOfFive : List ℕ
 namesOfFive = 1 ∷ 2 ∷ 3 ∷ 0 ∷ 9 ∷ []

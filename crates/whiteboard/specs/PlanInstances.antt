@@ -32,6 +32,7 @@ use Rattle.words.specs.Model.{wordColumns, pivotsAt, freeBefore, reduced, lastO
 use Rattle.words.specs.ReducedWords.{words-columns-words}
 use Rattle.words.specs.Switches.{pattern-agree}
 use Rattle.words.specs.WordList.{wordsTo}
+use Rattle.counts.specs.FullFactorials.{resolution-some}
 use Rattle.counts.specs.Patterns.{pattern-unique}
 use Rattle.isomorphism_laws.specs.KeptWords.{same-pattern, same-no-short}
 use Rattle.isomorphism_laws.specs.Link.{Units}
@@ -40,8 +41,9 @@ use Rattle.smallest_laws.specs.Growth.{entry-equal}
 use Rattle.smallest_laws.specs.UnitForms.{rising-distinct}
 use Rattle.catalogue_laws.specs.Demand.{Whole, whole}
 use Rattle.whiteboard.specs.ListTests.{among, all, distinct, not-among, carried-witness, tabled-table}
-use Rattle.whiteboard.specs.Samples.{abc, abcd, catalogue-4, words-abc, words-abcd, runs-abc, full-3, printed-samples}
+use Rattle.whiteboard.specs.Samples.{abc, abcd, catalogue-4, words-abc, words-abcd, runs-abc, printed-samples}
 use Rattle.whiteboard.specs.Tests.{below, below-at, agree-at, only-zero}
+use Rattle.whiteboard.specs.Whiteboard.{whiteboard}
 
 -- sizes: an ordinary one, the least, one of the largest
 pub size-4 : Size 4 1
@@ -233,8 +235,15 @@ sum-abc = refl
 pub resolution-abc : Resolution 4 (Generated 4 1 (7 ∷ [])) 3
 resolution-abc = words-abc .resolution
 
-pub resolution-full : Resolution 3 (Generated 3 0 []) 0
-resolution-full = full-3 .resolution
+pub resolution-full : Resolution 3 (Generated 3 0 []) 4
+resolution-full = whiteboard .1 .1 .1 .0 .resolution
+
+pub not-resolution-0 : Resolution 3 (Generated 3 0 []) 0 → ⊥
+not-resolution-0 h = omega (arith, resolution-some 3 (Generated 3 0 []) 0 h)
+
+-- it meets R 5, which is above its resolution
+pub no-short-full : NoShort 3 5 (planOf 3 3 (1 ∷ 2 ∷ 4 ∷ []))
+no-short-full = whiteboard .1 .1 .0 5 (omega arith) (omega arith) .sound 0 (omega arith) .long
 
 pub distances-abc : Distances 4 (planOf 4 3 abc) 0 (1 ∷ 1 ∷ 3 ∷ 3 ∷ 0 ∷ [])
 distances-abc = runs-abc .distances

@@ -29,10 +29,11 @@ use Rattle.regular.specs.declared.Design.{Design}
 use Rattle.standard.specs.Total.{total-unit}
 use Rattle.words.specs.Short.{repeat-gives-short}
 use Rattle.words.specs.Switches.{agree-sym, no-short-agree, agree-refl}
+use Rattle.counts.specs.FullFactorials.{resolution-long}
 use Rattle.whiteboard.specs.ListTests.{all, all-at}
 use Rattle.whiteboard.specs.PlanInstances.{size-4, runsABC, whole-4, table-abc, not-regular, no-short-abc, short-abc}
 use Rattle.whiteboard.specs.PlanInstances.{below-abc, spans-abc, not-spans, recordABC, dependent-twice, standard-abc}
-use Rattle.whiteboard.specs.PlanInstances.{holds-abc, disguised, table-disguised, no-short-disguised, repeat-ab}
+use Rattle.whiteboard.specs.PlanInstances.{holds-abc, disguised, table-disguised, no-short-disguised, repeat-ab, resolution-full}
 use Rattle.whiteboard.specs.Samples.{abc, abcd, fives, catalogue-4, catalogue-5, words-abcd}
 use Rattle.whiteboard.specs.Tests.{below, below-at, only-zero}
 
@@ -183,6 +184,19 @@ accepted-words = one-word 7 abc (omega arith) (omega arith) (catalogue-4 .sound 
 
 pub accepted-word-abcd : Lowest (wordsFaults 4 1 (15 ∷ [])) 0
 accepted-word-abcd = one-word 15 abcd (omega arith) (omega arith) (catalogue-4 .sound 1 (omega arith)) (words-abcd .columns .plan)
+
+-- no words
+pub accepted-no-words : Lowest (wordsFaults 3 0 []) 0
+accepted-no-words = lowest-none (wordsFaults 3 0 []) (λ k f. ⊎-elim (size-none 3 0 size k) (none k) f)
+  where
+    size : Size 3 0
+    size = record { some = omega arith; most = omega arith; less = omega arith; few = omega arith }
+
+    none : (k : ℕ) → WordsFault 3 0 [] k → ⊥
+    none k (WordsFault.count h) = h refl
+    none k (WordsFault.past i l h) = omega arith
+    none k (WordsFault.dependent h) = h (λ s l e. omega arith)
+    none k (WordsFault.short h) = omega (arith, h .few, resolution-long 3 (Generated 3 0 []) 3 4 resolution-full (omega arith) (h .word) (h .is))
 
 runs-none : (n m : ℕ) (t : List ℕ) → Table n m t → NoShort n 3 (runsOf t) → (k : ℕ) → TableFault n m t k → ⊥
 runs-none n m t tab ns k (TableFault.count h) = h (tab .count)

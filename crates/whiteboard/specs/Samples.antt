@@ -42,7 +42,6 @@ small =
     ∷ Row.words 4 1 (15 ∷ []) abcd (0 ∷ 0 ∷ 0 ∷ 1 ∷ []) 4
     ∷ Row.runs 4 3 abc (0 ∷ 5 ∷ 6 ∷ 3 ∷ 8 ∷ 13 ∷ 14 ∷ 11 ∷ []) (1 ∷ 1 ∷ 3 ∷ 3 ∷ 0 ∷ [])
     ∷ Row.runs 4 3 abcd (0 ∷ 9 ∷ 10 ∷ 3 ∷ 12 ∷ 5 ∷ 6 ∷ 15 ∷ []) (1 ∷ 0 ∷ 6 ∷ 0 ∷ 1 ∷ [])
-    ∷ Row.words 3 0 [] (1 ∷ 2 ∷ 4 ∷ []) (0 ∷ 0 ∷ 0 ∷ []) 0
     ∷ Row.catalogue 5 1 3 3 fives
     ∷ []
 
@@ -91,8 +90,5 @@ words-abcd = samples .1 .1 .0
 pub runs-abc : RunsRow 4 3 abc (0 ∷ 5 ∷ 6 ∷ 3 ∷ 8 ∷ 13 ∷ 14 ∷ 11 ∷ []) (1 ∷ 1 ∷ 3 ∷ 3 ∷ 0 ∷ [])
 runs-abc = samples .1 .1 .1 .0
 
-pub full-3 : WordsRow 3 0 (Generated 3 0 []) (1 ∷ 2 ∷ 4 ∷ []) (0 ∷ 0 ∷ 0 ∷ []) 0
-full-3 = samples .1 .1 .1 .1 .1 .0
-
 pub catalogue-5 : Catalogue 5 4 3 3 (λ i. getD fives i [])
-catalogue-5 = samples .1 .1 .1 .1 .1 .1 .0 3 (omega arith) (omega arith)
+catalogue-5 = samples .1 .1 .1 .1 .1 .0 3 (omega arith) (omega arith)

@@ -1,4 +1,4 @@
--- The whiteboard: the starred examples of document 01, one row an example, and their truth by the definitions.
+-- The whiteboard: the starred examples of document 01, with what document 02 adds to them, one row an example, and their truth by the definitions.
 use mathlib.Core.Path.{_≡_, refl}
 use mathlib.Core.Bool.{true}
 use mathlib.Core.List.{List, [], _∷_}
@@ -41,11 +41,14 @@ sixes =
     ∷ (1 ∷ 2 ∷ 4 ∷ 7 ∷ 8 ∷ 11 ∷ [])
     ∷ []
 
--- A full factorial is said without a resolution: it holds at each from 3 to 16. P's words of 4 multiply to the identity, Q's to CDFGHJ.
+-- A full factorial is said without a wanted resolution: it is the entry for each from 3 to 16. Its own resolution, one above its factors, stands with its
+-- columns, as the plan of no words (document 02, request 2). P's words of 4 multiply to the identity, Q's to CDFGHJ.
 abbrev pub table : List Row
 table =
     Row.catalogue 1 0 3 16 ((1 ∷ []) ∷ [])
+    ∷ Row.words 1 0 [] (1 ∷ []) (0 ∷ []) 2
     ∷ Row.catalogue 3 0 3 16 ((1 ∷ 2 ∷ 4 ∷ []) ∷ [])
+    ∷ Row.words 3 0 [] (1 ∷ 2 ∷ 4 ∷ []) (0 ∷ 0 ∷ 0 ∷ []) 4
     ∷ Row.catalogue 4 2 3 3 []
     ∷ Row.catalogue 4 1 3 3 ((1 ∷ 2 ∷ 3 ∷ 4 ∷ []) ∷ (1 ∷ 2 ∷ 4 ∷ 7 ∷ []) ∷ [])
     ∷ Row.runs 3 2 (1 ∷ 2 ∷ 3 ∷ []) (0 ∷ 5 ∷ 6 ∷ 3 ∷ []) (1 ∷ 0 ∷ 3 ∷ 0 ∷ [])

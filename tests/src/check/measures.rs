@@ -7,9 +7,9 @@ pub fn pattern(n: usize, words: &[u32]) -> Vec<u32> {
     (1..=n).map(|length| words.iter().filter(|&&word| letters(word) == length).count() as u32).collect()
 }
 
-/// The shortest word's length; 0 for a plan without words.
-pub fn resolution(words: &[u32]) -> u32 {
-    words.iter().map(|&word| letters(word) as u32).min().unwrap_or(0)
+/// The shortest word's length; n + 1 for a plan without words.
+pub fn resolution(n: usize, words: &[u32]) -> u32 {
+    words.iter().map(|&word| letters(word)).min().unwrap_or(n + 1) as u32
 }
 
 /// For each i from 0 to n, how many runs differ from the first run in exactly i factors.

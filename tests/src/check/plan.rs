@@ -53,7 +53,7 @@ impl Plan {
             Question::Runs if self.form == Form::Words => runs_of_columns(self.n - self.g, &standard(self.n, &self.words)),
             Question::Runs => self.runs.clone(),
             Question::Pattern => pattern(self.n, &self.words),
-            Question::Resolution => vec![resolution(&self.words)],
+            Question::Resolution => vec![resolution(self.n, &self.words)],
             Question::Distances => distances(self.n, &self.runs),
         }
     }

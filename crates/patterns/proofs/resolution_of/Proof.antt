@@ -1,22 +1,25 @@
--- `patterns::resolution_of` meets its contract. The invariant: no length up to i has a count above 0. The measure is what is left. Assumes nothing.
-use Prim.Native.Nat.{_-_, _≤_}
+-- `patterns::resolution_of` meets its contract. The invariant: no length before l has a count above 0. The measure is what is left. Assumes nothing.
+use Prim.Native.Nat.{ℕ, _+_, _-_, _≤_, _<_}
 use mathlib.Core.Path.{_≡_}
 use native.Mathlib.Omega.{arith}
-use Rattle.counts.specs.Models.{firstLength}
-use Rattle.counts.specs.Resolutions.{first-start}
 use borrow.Author.Needs.{needs}
-use Rattle.patterns.proofs.Laws.{first-next, first-found, first-over}
+use Rattle.regular.specs.Pattern.{ofLength}
+use Rattle.counts.specs.Resolutions.{first-length}
+use Rattle.patterns.proofs.Laws.{none-next}
 use Rattle.patterns.proofs.resolution_of.Statement.{statement}
 use Rattle.patterns.proofs.resolution_of.Tie as tie
 
 abbrev Inv-loop : tie.InvT-loop
-Inv-loop n pattern i₀ i = (i ≤ n) × (firstLength i pattern ≡ 0)
+Inv-loop n pattern l₀ l = (1 ≤ l) × (l ≤ n + 1) × ((k : ℕ) → 1 ≤ k → k < l → ofLength pattern k ≡ 0)
 
 abbrev μ-loop : tie.MeasureT-loop
-μ-loop n pattern i₀ i = n - i
+μ-loop n pattern l₀ l = n + 1 - l
 
 loop-holds : tie.Need-loop-holds Inv-loop μ-loop
-loop-holds c = (omega arith, first-start _)
+loop-holds c = (omega arith, omega arith, λ k some few. absurd (omega arith))
+
+sub-if1 : tie.Need-sub-if1 Inv-loop μ-loop
+sub-if1 c = search needs
 
 mul-if1 : tie.Need-mul-if1 Inv-loop μ-loop
 mul-if1 c = search needs
@@ -24,19 +27,16 @@ mul-if1 c = search needs
 array-read-if1 : tie.Need-array-read-if1 Inv-loop μ-loop
 array-read-if1 c = search needs
 
-add-result : tie.Need-add-result Inv-loop μ-loop
-add-result c = search needs
-
 cast-result : tie.Need-cast-result Inv-loop μ-loop
 cast-result c = search needs
 
 returns : tie.Need-returns Inv-loop μ-loop
 returns c =
     let at = c .before .before in
-    first-found _ (at .loop .i) _ (omega arith) (at .loop .inv .1) (c .if1 .taken)
+    first-length (record { some = omega arith; within = omega arith; before = at .loop .inv .2; counted = λ few. omega (arith, c .if1 .taken) })
 
-add-i : tie.Need-add-i Inv-loop μ-loop
-add-i c = search needs
+add-l : tie.Need-add-l Inv-loop μ-loop
+add-l c = search needs
 
 loop-less : tie.Need-loop-less Inv-loop μ-loop
 loop-less c = search needs
@@ -44,12 +44,23 @@ loop-less c = search needs
 loop-again : tie.Need-loop-again Inv-loop μ-loop
 loop-again c =
     let at = c .before .before in
-    (omega arith, first-next _ (at .loop .i) (at .loop .inv .1) (c .if1 .left))
+    (omega arith, omega arith, none-next (at .before .args .t2) (at .loop .inv .2) (c .if1 .left))
+
+add-result : tie.Need-add-result Inv-loop μ-loop
+add-result c = search needs
+
+cast-result-2 : tie.Need-cast-result-2 Inv-loop μ-loop
+cast-result-2 c = search needs
 
 returns-2 : tie.Need-returns-2 Inv-loop μ-loop
 returns-2 c =
     let at = c .before in
-    first-over _ (at .loop .i) _ (omega arith) (omega arith) (at .loop .inv .1)
+    first-length (record {
+      some = omega arith;
+      within = omega arith;
+      before = λ k some few. at .loop .inv .2 k some (omega arith);
+      counted = λ few. absurd (omega arith);
+    })
 
 pub resolution-of-spec : {M : Type 1} → statement M
 resolution-of-spec =
@@ -58,12 +69,14 @@ resolution-of-spec =
     Inv-loop
     μ-loop
     loop-holds
+    sub-if1
     mul-if1
     array-read-if1
-    add-result
     cast-result
     returns
-    add-i
+    add-l
     loop-less
     loop-again
+    add-result
+    cast-result-2
     returns-2)

@@ -1,0 +1,56 @@
+//! Full factorials: their resolution in every form, and their place above every other plan of their factors.
+
+use plan_tests::calls::{call, Given};
+use plan_tests::catalogues::entries;
+use plan_tests::check::plan::{Form, Question};
+use plan_tests::random::Random;
+use plan_tests::samples::{columns, given, Sample};
+
+/// The resolution that the library answers.
+fn resolution(given: &Given) -> u32 {
+    let found = call(given, Question::Resolution, 1);
+    assert_eq!(found.answer, 0, "{given:?}");
+    found.result(1)[0]
+}
+
+#[test]
+fn a_full_factorial_of_n_factors_has_resolution_n_plus_1_in_every_form() {
+    let mut random = Random::new(0x2f0f);
+    for n in 1..=7 {
+        for _ in 0..100 {
+            let plan = Sample { n, m: n, columns: columns(&mut random, n, n) };
+            for form in [Form::Words, Form::Columns, Form::Runs] {
+                let list = given(&mut random, &plan, form);
+                assert_eq!(resolution(&list), n as u32 + 1, "{list:?}");
+            }
+        }
+    }
+}
+
+/// The resolution and G of every entry of n factors and up to 7 basic ones.
+fn ranked(n: usize) -> Vec<(u32, usize)> {
+    let mut list = Vec::new();
+    for g in n.saturating_sub(7)..n {
+        let (whole, entries) = entries(n, g, 3, 1_000);
+        assert!(whole, "{n} {g} 3");
+        list.extend(entries.into_iter().map(|columns| (resolution(&Given { n, g, form: Form::Columns, list: columns }), g)));
+    }
+    list.sort();
+    list
+}
+
+#[test]
+fn of_all_entries_of_n_factors_the_full_factorial_sorts_to_the_top() {
+    for n in 1..=7 {
+        let mut list = ranked(n);
+        assert_eq!(list.pop(), Some((n as u32 + 1, 0)));
+        assert!(list.iter().all(|&(resolution, g)| 3 <= resolution && resolution <= n as u32 && 0 < g), "{n}: {list:?}");
+    }
+}
+
+#[test]
+fn without_a_full_factorial_no_resolution_is_above_n() {
+    for n in 8..=11 {
+        assert!(ranked(n).iter().all(|&(resolution, _)| 3 <= resolution && resolution <= n as u32), "{n}");
+    }
+}
