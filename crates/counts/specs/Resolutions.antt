@@ -1,4 +1,4 @@
--- Laws of the resolution: the definition fixes it, and it is the first length at which the pattern has a count above 0.
+-- Laws of the resolution: the definition fixes it, and it is the first length at which the pattern has a count above 0, or n + 1.
 use mathlib.Core.Path.{_≡_, refl, ap, subst, _∙_}
 use mathlib.Core.Logic.{by-cases}
 use mathlib.Core.List.{List}
@@ -106,6 +106,7 @@ first-is (suc n) p =
       counted = λ h. f .counted (omega (arith, f .within));
     }))
 
+-- so the model is the one such length
 pub first-length : {n : ℕ} {p : List ℕ} {r : ℕ} → FirstLength n p r → r ≡ firstLength n p
 first-length {n} {p} f = first-unique f (first-is n p)
 

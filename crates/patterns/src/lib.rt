@@ -99,7 +99,7 @@ pub fn resolution_of(n: usize, pattern: [u16; FACTORS]) -> u8
     (n + 1) as u8
 }
 
-// Whether some word has fewer than r letters. No word has more than n: a plan without words has none below r, also where its resolution n + 1 is.
+// Whether some word has fewer than r letters. No word has more than n letters, so a plan without words has none, even where n + 1 is below r.
 pub fn word_below(n: usize, r: usize, pattern: [u16; FACTORS]) -> bool
     requires { ⌜ n ≤ 16 ⌝ }
     ensures { λ res. ⌜ Tells res (CountBelow n r pattern) (NoneBelow n r pattern) ⌝ }
