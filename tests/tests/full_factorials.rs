@@ -3,8 +3,11 @@
 use plan_tests::calls::{call, Given};
 use plan_tests::catalogues::entries;
 use plan_tests::check::plan::{Form, Question};
+use plan_tests::guarded::{plan_resolution_of_columns, plan_resolution_of_runs, plan_resolution_of_words};
 use plan_tests::random::Random;
-use plan_tests::samples::{columns, given, Sample};
+use plan_tests::samples::{columns, damaged, given, sample, Sample};
+
+const FORMS: [Form; 3] = [Form::Words, Form::Columns, Form::Runs];
 
 /// The resolution that the library answers.
 fn resolution(given: &Given) -> u32 {
@@ -19,7 +22,7 @@ fn a_full_factorial_of_n_factors_has_resolution_n_plus_1_in_every_form() {
     for n in 1..=7 {
         for _ in 0..100 {
             let plan = Sample { n, m: n, columns: columns(&mut random, n, n) };
-            for form in [Form::Words, Form::Columns, Form::Runs] {
+            for form in FORMS {
                 let list = given(&mut random, &plan, form);
                 assert_eq!(resolution(&list), n as u32 + 1, "{list:?}");
             }
@@ -53,4 +56,35 @@ fn without_a_full_factorial_no_resolution_is_above_n() {
     for n in 8..=11 {
         assert!(ranked(n).iter().all(|&(resolution, _)| 3 <= resolution && resolution <= n as u32), "{n}");
     }
+}
+
+/// The answer of a call whose place is 0 before it, and the place after it.
+fn from_0(&Given { n, g, form, ref list }: &Given) -> (u8, u8) {
+    let shorts: Vec<u16> = list.iter().map(|&x| x as u16).collect();
+    let bytes: Vec<u8> = list.iter().map(|&x| x as u8).collect();
+    let mut place = [0];
+    let number = match form {
+        Form::Words => plan_resolution_of_words(n, g, &shorts, &mut place),
+        Form::Columns => plan_resolution_of_columns(n, g, &bytes, &mut place),
+        Form::Runs => plan_resolution_of_runs(n, g, &shorts, &mut place),
+    };
+    (number, place[0])
+}
+
+#[test]
+fn a_place_of_0_is_0_after_the_call_exactly_if_it_was_refused() {
+    let mut random = Random::new(0x2f10);
+    let (mut accepted, mut refused) = (0, 0);
+    for _ in 0..1_000 {
+        let plan = sample(&mut random);
+        for form in FORMS {
+            let good = given(&mut random, &plan, form);
+            for list in [damaged(&mut random, &good), good] {
+                let (number, place) = from_0(&list);
+                assert_eq!(number == 0, place != 0, "{number} and {place} for {list:?}");
+                *if number == 0 { &mut accepted } else { &mut refused } += 1;
+            }
+        }
+    }
+    assert!(accepted > 3_000 && refused > 1_000, "{accepted} accepted, {refused} refused");
 }
