@@ -10,13 +10,13 @@ use Rattle.patterns.proofs.resolution_of.Statement.{statement}
 use Rattle.patterns.proofs.resolution_of.Tie as tie
 
 abbrev Inv-loop : tie.InvT-loop
-Inv-loop n pattern l₀ l = (1 ≤ l) × (l ≤ n + 1) × ((k : ℕ) → 1 ≤ k → k < l → ofLength pattern k ≡ 0)
+Inv-loop n pattern l₀ l = (1 ≤ l) × ((k : ℕ) → 1 ≤ k → k < l → ofLength pattern k ≡ 0)
 
 abbrev μ-loop : tie.MeasureT-loop
 μ-loop n pattern l₀ l = n + 1 - l
 
 loop-holds : tie.Need-loop-holds Inv-loop μ-loop
-loop-holds c = (omega arith, omega arith, λ k some few. absurd (omega arith))
+loop-holds c = (omega arith, λ k some few. absurd (omega arith))
 
 sub-if1 : tie.Need-sub-if1 Inv-loop μ-loop
 sub-if1 c = search needs
@@ -33,7 +33,7 @@ cast-result c = search needs
 returns : tie.Need-returns Inv-loop μ-loop
 returns c =
     let at = c .before .before in
-    first-length (record { some = omega arith; within = omega arith; before = at .loop .inv .2; counted = λ few. omega (arith, c .if1 .taken) })
+    first-length (record { some = omega arith; within = omega arith; before = at .loop .inv .1; counted = λ few. omega (arith, c .if1 .taken) })
 
 add-l : tie.Need-add-l Inv-loop μ-loop
 add-l c = search needs
@@ -44,7 +44,7 @@ loop-less c = search needs
 loop-again : tie.Need-loop-again Inv-loop μ-loop
 loop-again c =
     let at = c .before .before in
-    (omega arith, omega arith, none-next (at .before .args .t2) (at .loop .inv .2) (c .if1 .left))
+    (omega arith, none-next (at .before .args .t2) (at .loop .inv .1) (c .if1 .left))
 
 add-result : tie.Need-add-result Inv-loop μ-loop
 add-result c = search needs
@@ -58,7 +58,7 @@ returns-2 c =
     first-length (record {
       some = omega arith;
       within = omega arith;
-      before = λ k some few. at .loop .inv .2 k some (omega arith);
+      before = λ k some few. at .loop .inv .1 k some (omega arith);
       counted = λ few. absurd (omega arith);
     })
 
