@@ -1,3 +1,3 @@
 pub mod Ready
 pub mod Measured
-pub mod Ranks
+pub mod ResolutionAnswers
