@@ -33,7 +33,7 @@
 #include <stddef.h>
 #include <stdint.h>
 
-#define PLANNER_VERSION "0.3.0"
+#define PLANNER_VERSION "0.3.1"
 
 /* The most factors, basic factors and runs that a plan may have. So many places are enough for any list that a call on one or two plans fills.
  * Distance counts need one more than PLAN_FACTORS. Catalogues, books and several plans need more. */
@@ -110,9 +110,9 @@ uint8_t plan_distances_of_runs(size_t n, size_t g, const uint16_t *runs, size_t 
 /* The number under which plan_less_aberration refuses these two lists of words, or PLAN_ACCEPTED if it accepts them. No list is lent. */
 uint8_t plan_aberration_refusal(size_t n, size_t g, const uint16_t *first, size_t first_count, const uint16_t *second, size_t second_count);
 
-/* Which of two plans of one N and G, given by words, has less aberration. The patterns are compared from length 3 up to length M. At the first
- * length that differs the smaller count is better. The answer is 1 for the first list, 2 for the second, and 0 if refused. It is also 1 if
- * neither is better. */
+/* Which of two plans of one N and G, given by words, has less aberration. The patterns are compared from length 3 up to length N. At the first
+ * length that differs the smaller count is better (minimum aberration criterion). The answer is 1 for the first list, 2 for the second, and 0 if
+ * refused. It is also 1 if the patterns are equal. */
 uint8_t plan_less_aberration(size_t n, size_t g, const uint16_t *first, size_t first_count, const uint16_t *second, size_t second_count);
 
 /* The comparison of two plans of one N and G. They are the same (isomorphic) if renaming the factors and switching the levels of some of them

@@ -1,6 +1,7 @@
 //! The library beside another build of it: the same calls by both in turn, on families of plans and on catalogues. Each is linked twice. What
 //! one copy takes more than the other comes from its place in memory and from the machine alone.
 
+use crate::choice::word_pairs;
 use crate::families::Family;
 use crate::mean;
 use planner::PLAN_SAME;
@@ -29,12 +30,14 @@ pub struct Answer {
 
 /// A build of the library, by the names of its functions.
 macro_rules! build {
-    ($name:ident, $compare:literal, $smallest:literal, $catalogue:literal) => {
+    ($name:ident, $compare:literal, $choose:literal, $smallest:literal, $catalogue:literal) => {
         mod $name {
             use super::Answer;
             extern "C" {
                 #[link_name = $compare]
                 pub fn compare(n: usize, g: usize, a: *const u8, len: usize, b: *const u8, also: usize, w: *mut u8, names: usize) -> u32;
+                #[link_name = $choose]
+                pub fn choose(n: usize, g: usize, a: *const u16, len: usize, b: *const u16, also: usize) -> u8;
                 #[link_name = $smallest]
                 pub fn smallest(
                     n: usize,
@@ -51,18 +54,25 @@ macro_rules! build {
                 #[link_name = $catalogue]
                 pub fn catalogue(n: usize, g: usize, r: usize, list: *mut u8, len: usize) -> Answer;
             }
-            pub const BUILD: super::Build = super::Build { compare, smallest, catalogue };
+            pub const BUILD: super::Build = super::Build { compare, choose, smallest, catalogue };
         }
     };
 }
 
-build!(ours, "plan_compare_columns", "plan_smallest_of_columns", "plan_catalogue");
-build!(ours_again, "again_plan_compare_columns", "again_plan_smallest_of_columns", "again_plan_catalogue");
-build!(other, "other_plan_compare_columns", "other_plan_smallest_of_columns", "other_plan_catalogue");
-build!(other_again, "other_again_plan_compare_columns", "other_again_plan_smallest_of_columns", "other_again_plan_catalogue");
+build!(ours, "plan_compare_columns", "plan_less_aberration", "plan_smallest_of_columns", "plan_catalogue");
+build!(ours_again, "again_plan_compare_columns", "again_plan_less_aberration", "again_plan_smallest_of_columns", "again_plan_catalogue");
+build!(other, "other_plan_compare_columns", "other_plan_less_aberration", "other_plan_smallest_of_columns", "other_plan_catalogue");
+build!(
+    other_again,
+    "other_again_plan_compare_columns",
+    "other_again_plan_less_aberration",
+    "other_again_plan_smallest_of_columns",
+    "other_again_plan_catalogue"
+);
 
 struct Build {
     compare: unsafe extern "C" fn(usize, usize, *const u8, usize, *const u8, usize, *mut u8, usize) -> u32,
+    choose: unsafe extern "C" fn(usize, usize, *const u16, usize, *const u16, usize) -> u8,
     smallest: unsafe extern "C" fn(usize, usize, *const u8, usize, *const u8, usize, *mut u8, usize, *mut u8, usize) -> Answer,
     catalogue: unsafe extern "C" fn(usize, usize, usize, *mut u8, usize) -> Answer,
 }
@@ -74,6 +84,11 @@ impl Build {
         let mut names = [0; 16];
         // SAFETY: the lists are valid for the counts given with them, the lent one overlaps no other, and the call keeps none.
         unsafe { (self.compare)(n, g, a.as_ptr(), a.len(), b.as_ptr(), b.len(), names.as_mut_ptr(), names.len()) == PLAN_SAME }
+    }
+
+    fn choice(&self, n: usize, g: usize, a: &[u16], b: &[u16]) -> u8 {
+        // SAFETY: as above.
+        unsafe { (self.choose)(n, g, a.as_ptr(), a.len(), b.as_ptr(), b.len()) }
     }
 
     fn smallest(&self, n: usize, g: usize, a: &[u8]) -> [u8; 16] {
@@ -124,7 +139,7 @@ fn print_row(call: &str, of: &str, number: usize, [ours, other, ours_again, othe
     );
 }
 
-/// The comparison of the pairs, then the smallest forms of their second plans.
+/// The comparison of the pairs, the choice between them by words, then the smallest forms of their second plans.
 fn print_family(family: &Family) {
     let Family { kind, n, m, same, pairs } = family;
     let (g, of) = (n - m, format!("{kind}, N {n}, M {m}"));
@@ -133,6 +148,12 @@ fn print_family(family: &Family) {
         black_box(build.same(*n, g, black_box(&pairs[i].0), black_box(&pairs[i].1)));
     });
     print_row("comparison", &of, pairs.len(), times);
+    let words = word_pairs(family);
+    assert!(words.iter().all(|(a, b)| ALL.iter().all(|build| build.choice(*n, g, a, b) == ALL[0].choice(*n, g, a, b))), "{of}");
+    let times = measure(PASSES, words.len(), |build, i| {
+        black_box(build.choice(*n, g, black_box(&words[i].0), black_box(&words[i].1)));
+    });
+    print_row("choice", &of, words.len(), times);
     let times = measure(PASSES, pairs.len(), |build, i| {
         black_box(build.smallest(*n, g, black_box(&pairs[i].1)));
     });

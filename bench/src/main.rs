@@ -1,10 +1,12 @@
 //! Measures the comparison of two plans, through the exported function on columns, against the same steps in plain Rust and against
 //! canonical labels by nauty, on the same pairs. Prints a Markdown table: of families of pairs; with the word `entries` of pairs of
-//! every size; with the word `smallest` of the smallest forms of the plans of families; with the word `beside` of calls on these and of
-//! catalogues by the library and by another build of it, if that is linked.
+//! every size; with the word `choice` of the choice between different plans by aberration; with the word `smallest` of the smallest
+//! forms of the plans of families; with the word `beside` of calls on these and of catalogues by the library and by another build of it, if
+//! that is linked.
 
 #[cfg(feature = "beside")]
 mod beside;
+mod choice;
 mod entries;
 mod families;
 mod nauty;
@@ -167,6 +169,11 @@ fn main() {
             println!("| M | N | answer | number | library | worst | nauty | worst | library / nauty | worst pair | behind |");
             println!("|---|---|---|---|---|---|---|---|---|---|---|");
             (1..=7).for_each(print_entries);
+        }
+        Some("choice") => {
+            println!("| pairs | N | M | number | library | worst | plain Rust | worst | library / plain |");
+            println!("|---|---|---|---|---|---|---|---|---|");
+            families().iter().filter(|family| !family.same).for_each(choice::print_row);
         }
         Some("smallest") => {
             println!("| plans | N | M | number | library | worst | nauty | worst | library / nauty |");

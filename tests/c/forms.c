@@ -88,6 +88,16 @@ static void print_p_and_q(void)
            plan_less_aberration(9, 3, p_words, 3, q_words, 3));
 }
 
+/* 128 runs: ABCDEH, ABCFGJ without a word of 5 letters, and ABCDH, ABEFGJ with one. */
+static const uint16_t no_five[] = {0x09f, 0x167};
+static const uint16_t one_five[] = {0x08f, 0x173};
+
+static void print_128_runs(void)
+{
+    printf("aberration of ABCDEH, ABCFGJ and ABCDH, ABEFGJ: %u, in the other order %u\n", plan_less_aberration(9, 2, no_five, 2, one_five, 2),
+           plan_less_aberration(9, 2, one_five, 2, no_five, 2));
+}
+
 static const uint16_t two_words[] = {7, 25};
 static const uint16_t past_word[] = {8};
 static const uint16_t repeated_word[] = {7, 7};
@@ -111,6 +121,7 @@ int main(void)
     clear();
     print_small();
     print_p_and_q();
+    print_128_runs();
     print_refused();
     return 0;
 }

@@ -1,6 +1,6 @@
 //! The largest catalogues. Outside the gate: cargo test --release --features long --test long_catalogues
 
-use plan_tests::catalogues::{catalogue, entries, patterns_and_beginnings};
+use plan_tests::catalogues::catalogue;
 use plan_tests::forms::compare_smallest;
 use plan_tests::known::in_other_basics;
 use plan_tests::random::Random;
@@ -37,16 +37,4 @@ fn counts_in_128_runs_from_13_factors() {
 fn no_plan_of_15_or_16_factors_in_128_runs_is_missing() {
     confirm(15, 7, 3, 137_493);
     confirm(16, 7, 3, 745_413);
-}
-
-/// So that a ranking from length 3 up to M is one by all lengths, as document 000 has it: for every size.
-#[test]
-fn patterns_that_agree_from_length_3_to_m_agree_wholly() {
-    for n in 1..=16 {
-        for m in 1..=n.min(7) {
-            let (whole, entries) = entries(n, n - m, 3, 800_000);
-            let (beginnings, patterns) = patterns_and_beginnings(m, &entries);
-            assert!(whole && beginnings == patterns, "{n} factors, {m} of them basic: {beginnings} beginnings of {patterns} patterns");
-        }
-    }
 }

@@ -138,8 +138,8 @@ fn ranked(n: usize, g: usize, first: &[u32], second: &[u32]) -> Ranked {
         return Ranked { refusal: lowest(number(&plans.0), number(&plans.1)), better: 0, length: 0 };
     };
     let (one, two) = (pattern(n, &one.words), pattern(n, &two.words));
-    let better = if second_is_better(n - g, &one, &two) { 2 } else { 1 };
-    Ranked { refusal: 0, better, length: first_difference(n - g, &one, &two).unwrap_or(0) }
+    let better = if second_is_better(n, &one, &two) { 2 } else { 1 };
+    Ranked { refusal: 0, better, length: first_difference(n, &one, &two).unwrap_or(0) }
 }
 
 /// Compares the ranking of two lists of words with the checking program, and returns what it came to.

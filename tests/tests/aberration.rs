@@ -1,8 +1,10 @@
 //! The comparison of two lists of words by aberration.
 
 use plan_tests::catalogues::{entries, patterns_and_beginnings};
-use plan_tests::check::plan::Form;
+use plan_tests::check::plan::{Form, Plan, Question};
 use plan_tests::compare::{compare_ranking, RANKING_ANSWERS};
+use plan_tests::known::Known;
+use plan_tests::published::{agrees, columns as columns_with, rows, Row, BASICS};
 use plan_tests::random::Random;
 use plan_tests::samples::{columns, damaged, generators, given, sample, Sample};
 
@@ -32,7 +34,7 @@ fn every_pair_of_lists_of_up_to_2_words_of_up_to_4_factors_is_ranked_as_defined(
 }
 
 #[test]
-fn plans_of_one_word_are_ranked_at_the_shorter_words_length_up_to_the_basic_count() {
+fn plans_of_one_word_are_ranked_at_the_shorter_words_length() {
     for n in 4..=8 {
         for first in 3..=n {
             for second in 3..=n {
@@ -61,7 +63,7 @@ fn the_first_of_two_lists_of_one_plan_is_handed_back() {
 fn random_pairs_of_plans_are_ranked_as_defined_in_both_orders() {
     let mut random = Random::new(0x4242_4242_1717_1717);
     let mut better = [0; 3];
-    let mut lengths = [0; 8];
+    let mut lengths = [0; 17];
     for _ in 0..400 {
         let plan = sample(&mut random);
         let other = Sample { n: plan.n, m: plan.m, columns: columns(&mut random, plan.n, plan.m) };
@@ -94,15 +96,71 @@ fn damaged_pairs_are_refused_under_the_lowest_number_and_every_number_is_reached
     }
 }
 
-/// Document 000 ranks two plans at the first length of all where their patterns differ, document 01 from length 3 up to M: one ranking, since
-/// patterns that agree so far agree wholly. (000 has this for M up to 6, and for M 7 as a conjecture.)
+/// The words of a plan of m basic factors, by its columns.
+fn words(m: usize, columns: &[u32]) -> Vec<u32> {
+    Plan::new(columns.len(), columns.len() - m, Form::Columns, columns).answer(Question::Words)
+}
+
+/// The published criterion ranks by the first of all lengths: the better pattern comes first in dictionary order.
 #[test]
-fn patterns_of_up_to_12_factors_that_agree_from_length_3_to_m_agree_wholly() {
-    for n in 1..=12 {
-        for m in 1..=n.min(7) {
-            let (whole, entries) = entries(n, n - m, 3, 10_000);
-            let (beginnings, patterns) = patterns_and_beginnings(m, &entries);
-            assert!(whole && beginnings == patterns, "{n} factors, {m} of them basic: {beginnings} beginnings of {patterns} patterns");
+fn entries_of_every_size_up_to_10_factors_are_ranked_by_the_published_criterion_in_both_orders() {
+    let mut better = [0; 3];
+    for (n, m) in (1..=10).flat_map(|n| (1..=n.min(7)).map(move |m| (n, m))) {
+        let (whole, entries) = entries(n, n - m, 3, 1_000);
+        assert!(whole, "{n} factors, {m} of them basic");
+        let plans: Vec<(Vec<u32>, Vec<u32>)> = entries.iter().map(|entry| (words(m, entry), Known::new(m, entry).pattern)).collect();
+        for (k, (first, p)) in plans.iter().enumerate() {
+            for (second, q) in &plans[k..plans.len().min(k + 20)] {
+                for ((first, p), (second, q)) in [((first, p), (second, q)), ((second, q), (first, p))] {
+                    let found = compare_ranking(n, n - m, first, second).better;
+                    assert_eq!(found, if q < p { 2 } else { 1 }, "n {n}, words {first:?} and {second:?}, patterns {p:?} and {q:?}");
+                    better[found as usize] += 1;
+                }
+            }
         }
     }
+    assert!(better[1] > 1_000 && better[2] > 1_000, "handed back: {better:?}");
+}
+
+/// Document 000's Appendix B has plans of 128 runs in the order of the criterion. A row is used where its recomputed pattern is the printed one.
+#[test]
+fn appendix_b_stands_in_the_order_of_aberration() {
+    let rows: Vec<Row> = rows().into_iter().filter(agrees).collect();
+    let mut ranked = 0;
+    for pair in rows.windows(2).filter(|pair| pair[0].k == pair[1].k) {
+        let [first, second] = [&pair[0], &pair[1]].map(|row| words(BASICS, &columns_with(&row.added)));
+        let found = compare_ranking(pair[0].k, pair[0].k - BASICS, &first, &second);
+        assert_eq!((found.refusal, found.better), (0, 1), "{pair:?}");
+        ranked += 1;
+    }
+    assert!(ranked > 50, "only {ranked} pairs");
+}
+
+/// The first row of each size is the best plan of resolution 4 and up.
+#[test]
+fn no_plan_of_128_runs_and_up_to_12_factors_has_less_aberration_than_the_first_of_appendix_b() {
+    for n in 8..=12 {
+        let row = rows().into_iter().find(|row| row.k == n).expect("a row");
+        assert!(agrees(&row), "{row:?}");
+        let best = words(BASICS, &columns_with(&row.added));
+        let (whole, entries) = entries(n, n - BASICS, 4, 1_000);
+        assert!(whole && entries.len() >= 5, "{n} factors: {} entries", entries.len());
+        for entry in &entries {
+            assert_eq!(compare_ranking(n, n - BASICS, &best, &words(BASICS, entry)).better, 1, "{row:?} and {entry:?}");
+        }
+    }
+}
+
+/// Document 000 found that patterns which agree up to length M agree wholly, for M up to 6, and conjectures it for M 7. So no plan of any size in
+/// bounds is ranked otherwise than document 01 ranked it, up to length M. A remark: the comparison goes to length N.
+#[test]
+fn patterns_that_agree_from_length_3_to_m_agree_wholly() {
+    let (mut sizes, mut plans) = (0, 0);
+    for (n, m) in (1..=16).flat_map(|n| (1..=n.min(7)).map(move |m| (n, m))) {
+        let (whole, entries) = entries(n, n - m, 3, 800_000);
+        let (beginnings, patterns) = patterns_and_beginnings(m, &entries);
+        assert!(whole && beginnings == patterns, "{n} factors, {m} of them basic: {beginnings} beginnings of {patterns} patterns");
+        (sizes, plans) = (sizes + 1, plans + entries.len());
+    }
+    assert_eq!((sizes, plans), (91, 966_101), "sizes, and entries of all");
 }

@@ -84,14 +84,14 @@ fn every_definition_has_a_line_of_the_readers_pass_and_every_instance_is_proved(
     let specs: String = files("specs", "antt").iter().map(|path| read(path)).collect();
     let folders = ["whiteboard", "instances"].map(|krate| fs::read_dir(root().join(format!("crates/{krate}/specs"))).expect("specs"));
     let proved: String = folders.into_iter().flatten().map(|entry| read(&entry.expect("a file").path())).collect();
-    let long = read(&root().join("tests/long/catalogues.rs"));
+    let tested = read(&root().join("tests/tests/aberration.rs"));
     let stands = |text: &str, name: &str| text.contains(&format!("\npub {name} :")) || text.contains(&format!("\n  pub {name} :"));
     let missing: Vec<String> = named(3).into_iter().filter(|name| !stands(&proved, name)).collect();
     assert!(missing.is_empty(), "no instance {missing:?}");
     let known: BTreeSet<&str> = specs.lines().filter_map(declared).collect();
     let unknown: Vec<String> = named(0)
         .union(&named(2))
-        .filter(|name| !known.contains(name.as_str()) && !long.contains(&format!("fn {name}()")))
+        .filter(|name| !known.contains(name.as_str()) && !tested.contains(&format!("fn {name}()")))
         .cloned()
         .collect();
     assert!(unknown.is_empty(), "not in the repository: {unknown:?}");

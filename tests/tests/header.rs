@@ -1,4 +1,4 @@
-//! The C header beside the static library's exported functions, their source, and the crate that calls them from Rust.
+//! The C header beside the static library's exported functions, their source, and the crate that calls them from Rust. One version for all.
 
 use std::collections::{BTreeMap, BTreeSet};
 use std::process::Command;
@@ -26,6 +26,22 @@ fn symbols(option: &str) -> BTreeSet<String> {
     let listed = Command::new("nm").args([option, "--extern-only", "--format=posix", LIBRARY]).output().expect("nm runs");
     let text = String::from_utf8(listed.stdout).expect("nm writes text");
     text.lines().filter_map(|line| line.split_once(' ')).map(|(name, _)| name.to_string()).collect()
+}
+
+#[test]
+fn the_headers_version_is_that_of_the_crate_of_both_lock_files_and_of_the_newest_changes() {
+    let after = |text: &'static str, before: &str| {
+        let (_, rest) = text.split_once(before).unwrap_or_else(|| panic!("no {before:?}"));
+        rest.split(['"', '\n']).next().expect("a version")
+    };
+    let version = after(HEADER, "#define PLANNER_VERSION \"");
+    assert!(version.split('.').all(|part| part.parse::<u32>().is_ok()) && version.split('.').count() == 3, "{version}");
+    let locked = "name = \"planner\"\nversion = \"";
+    let crate_file = include_str!("../planner/Cargo.toml");
+    let locks = [include_str!("../Cargo.lock"), include_str!("../../bench/Cargo.lock")];
+    assert_eq!(after(crate_file, locked), version, "the crate");
+    assert_eq!(locks.map(|lock| after(lock, locked)), [version; 2], "the lock files of the tests and of the benchmarks");
+    assert_eq!(after(include_str!("../../CHANGES.md"), "\n## "), version, "the newest of CHANGES.md");
 }
 
 #[test]

@@ -3,13 +3,18 @@
 /// Sixteen columns, those past the factors 0.
 pub type Columns = [u8; 16];
 
+/// The number that refuses the sizes, if one does.
+pub fn size_fault(n: usize, g: usize) -> Option<u32> {
+    if !(1..=16).contains(&n) {
+        return Some(1);
+    }
+    (n <= g || 7 < n - g).then_some(2)
+}
+
 /// The standard columns of a list, or the number that refuses it.
 pub fn admit(n: usize, g: usize, list: &[u8]) -> Result<Columns, u32> {
-    if !(1..=16).contains(&n) {
-        return Err(1);
-    }
-    if n <= g || 7 < n - g {
-        return Err(2);
+    if let Some(number) = size_fault(n, g) {
+        return Err(number);
     }
     if list.len() != n {
         return Err(4);
@@ -19,7 +24,7 @@ pub fn admit(n: usize, g: usize, list: &[u8]) -> Result<Columns, u32> {
         return Err(5);
     }
     let columns = standardize(m, list).ok_or(6u32)?;
-    if !plain(&columns[..n]) {
+    if !distinct(&columns[..n]) {
         return Err(7);
     }
     Ok(columns)
@@ -50,7 +55,7 @@ fn standardize(m: usize, list: &[u8]) -> Option<Columns> {
 }
 
 /// Whether no column is 0 and none stands twice.
-fn plain(columns: &[u8]) -> bool {
+pub fn distinct(columns: &[u8]) -> bool {
     let mut seen = [false; 128];
     seen[0] = true;
     columns.iter().all(|&column| !std::mem::replace(&mut seen[usize::from(column)], true))

@@ -1,5 +1,5 @@
 -- Less aberration by the patterns, whichever lists hold them, and which list is handed back.
-use mathlib.Core.Path.{_≡_, refl, sym, subst, _∙_}
+use mathlib.Core.Path.{_≡_, refl, subst, _∙_}
 use mathlib.Core.Bool.{Bool}
 use mathlib.Core.List.{List}
 use Prim.Native.Nat.{ℕ, _-_, _≤_, _<_}
@@ -39,16 +39,15 @@ better-same n last s t p q u v h tp sq tu sv b =
       );
     }
 
-less-better : (n m : ℕ) (t s : Runs) (p q : List ℕ) → lastLength n m ≤ n → Pattern n t p → Pattern n s q → LessAberration n m t s
-    → Better (lastLength n m) p q
-less-better n m t s p q h tp sq l = better-same n (lastLength n m) s t p q (l .p) (l .q) h tp sq (l .of-t) (l .of-s) (l .better)
+less-better : (n m : ℕ) (t s : Runs) (p q : List ℕ) → Pattern n t p → Pattern n s q → LessAberration n m t s → Better (lastLength n m) p q
+less-better n m t s p q tp sq l = better-same n (lastLength n m) s t p q (l .p) (l .q) (omega arith) tp sq (l .of-t) (l .of-s) (l .better)
 
--- so the patterns decide, compared up to `last`
-pub less-told : {n m last : ℕ} {t s : Runs} {p q : List ℕ} {r : Bool} → last ≡ lastLength n m → lastLength n m ≤ n → Pattern n t p → Pattern n s q
-    → Tells r (Better last p q) (Better last p q → ⊥) → Tells r (LessAberration n m t s) (LessAberration n m t s → ⊥)
-less-told {n} {m} {last} {t} {s} {p} {q} e h tp sq b = (
-  λ y. record { p = p; q = q; of-t = tp; of-s = sq; better = subst (λ (l : ℕ). Better l p q) e (b .0 y) },
-  λ y less. b .1 y (subst (λ (l : ℕ). Better l p q) (sym e) (less-better n m t s p q h tp sq less)),
+-- so the patterns decide, compared up to the last length
+pub less-told : {n m : ℕ} {t s : Runs} {p q : List ℕ} {r : Bool} → Pattern n t p → Pattern n s q
+    → Tells r (Better (lastLength n m) p q) (Better (lastLength n m) p q → ⊥) → Tells r (LessAberration n m t s) (LessAberration n m t s → ⊥)
+less-told {n} {m} {t} {s} {p} {q} tp sq b = (
+  λ y. record { p = p; q = q; of-t = tp; of-s = sq; better = b .0 y },
+  λ y less. b .1 y (less-better n m t s p q tp sq less),
 )
 
 -- the lists of two admitted plans p and q, of which one is handed back; r is the call's number

@@ -1,9 +1,8 @@
 // The one of two lists of words whose plan has less aberration.
-ghost use mathlib.Core.Path.{_≡_};
-ghost use Prim.Native.Nat.{_-_, _<_};
+ghost use Prim.Native.Nat.{_-_};
 ghost use Rattle.gf2.specs.Answers.{Tells};
 ghost use Rattle.regular.specs.Columns.{planOf};
-ghost use Rattle.regular.specs.Pattern.{LessAberration, lastLength};
+ghost use Rattle.regular.specs.Pattern.{LessAberration};
 ghost use Rattle.regular.specs.Refusals.{either, Lowest};
 ghost use Rattle.regular.specs.Given.{ofWords};
 ghost use Rattle.regular.specs.Measures.{ChoosesLess, HandsBackLess};
@@ -11,24 +10,15 @@ ghost use Rattle.admission.specs.Admission.{Ready};
 use admission::lower_of;
 use regular::FACTORS;
 
-// The last length at which patterns are compared.
-fn last_length(n: usize, g: usize) -> usize
-    requires { ⌜ g < n ⌝ }
-    ensures { λ r. ⌜ r ≡ lastLength n (n - g) ⌝ }
-{
-    n - g
-}
-
-// Whether the plan of the second standard columns has less aberration than that of the first.
+// Whether the plan of the second standard columns has less aberration than that of the first: patterns are compared to the last letter.
 fn second_less(n: usize, g: usize, first: [u8; FACTORS], second: [u8; FACTORS]) -> bool
     requires { ⌜ Ready n g first × Ready n g second ⌝ }
     ensures { λ r. ⌜ Tells r (LessAberration n (n - g) (planOf n (n - g) second) (planOf n (n - g) first))
         (LessAberration n (n - g) (planOf n (n - g) second) (planOf n (n - g) first) → ⊥) ⌝ }
 {
-    let last = last_length(n, g);
     let p = measures::pattern(n, g, first);
     let q = measures::pattern(n, g, second);
-    patterns::better(last, q, p)
+    patterns::better(n, q, p)
 }
 
 // The refusal's number, 0 if both lists are accepted.

@@ -8,3 +8,5 @@ pub mod ShortWords
 pub mod Distances
 pub mod PlanCounts
 pub mod FullFactorials
+pub mod Aberration
+pub mod PatternEnds

@@ -38,7 +38,7 @@ module _ (n : ℕ) (s : Runs) (p : List ℕ) (pat : Pattern n s p) where
       (subst (λ (i : ℕ). Count (λ w. Word n s w × (letters w ≡ suc k)) (getD p i 0)) e (pat .counts (suc k) (omega arith) h)))
 
   -- the pattern sums to the number of words
-  pattern-words : Count (Word n s) (sumTo n p)
+  pub pattern-words : Count (Word n s) (sumTo n p)
   pattern-words =
       count-same (λ w. Word n s w × (letters w ≤ n)) (Word n s) (sumTo n p) (λ w q. q .0) (λ w q. (q, word-most n s w q)) (words-to n (omega arith))
 

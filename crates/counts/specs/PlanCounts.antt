@@ -1,4 +1,4 @@
--- Document 01's counts of words, for any regular plan: it has 2^G − 1 words, and its pattern over lengths 1 to N sums to that.
+-- Document 01's counts of words, for any regular plan: it has 2^G − 1 words and a pattern, which over lengths 1 to N sums to that.
 use Prim.Native.Nat.{ℕ, _-_, _^_}
 use mathlib.Core.Path.{_≡_}
 use mathlib.Core.List.{List}
@@ -12,14 +12,17 @@ use Rattle.standard.specs.Model.{standard}
 use Rattle.standard.specs.FromTable.{table-standard}
 use Rattle.words.specs.WordList.{wordsTo}
 use Rattle.words.specs.ReducedWords.{words-generators}
-use Rattle.words.specs.Switches.{word-switched, word-switched-back, words-pattern}
-use Rattle.counts.specs.WordCounts.{word-count}
+use Rattle.words.specs.Switches.{word-switched, word-switched-back, words-pattern, pattern-switched}
+use Rattle.counts.specs.WordCounts.{word-count, generated-pattern}
 use Rattle.counts.specs.Patterns.{pattern-sum}
 
 -- a plan with standard columns
 module _ (n m : ℕ) (s : Runs) (a : List ℕ) (st : StandardFor n m s a) where
   pub plan-words : Count (Word n s) (2 ^ (n - m) - 1)
   plan-words = word-count n (n - m) s (wordsTo a n) (words-generators n m s a st)
+
+  pub plan-pattern : (p : List ℕ) × Pattern n s p
+  plan-pattern = generated-pattern n (n - m) s (wordsTo a n) (words-generators n m s a st)
 
   pub plan-pattern-sum : (p : List ℕ) → Pattern n s p → sumTo n p ≡ 2 ^ (n - m) - 1
   plan-pattern-sum p h = pattern-sum n (n - m) s (wordsTo a n) p (words-generators n m s a st) h
@@ -36,6 +39,10 @@ module _ (n m : ℕ) (t : List ℕ) (tab : Table n m t) where
 
   pub table-words : Count (Word n (runsOf t)) (2 ^ (n - m) - 1)
   table-words = switched-words n m (getD t 0 0) (runsOf t) (standard t n) (table-standard n m t tab)
+
+  pub table-pattern : (p : List ℕ) × Pattern n (runsOf t) p
+  table-pattern =
+      let p = plan-pattern n m plan (standard t n) (table-standard n m t tab) in (p .0, pattern-switched n (getD t 0 0) (runsOf t) (p .0) (p .1))
 
   pub table-pattern-sum : (p : List ℕ) → Pattern n (runsOf t) p → sumTo n p ≡ 2 ^ (n - m) - 1
   table-pattern-sum p h =

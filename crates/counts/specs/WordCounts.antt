@@ -7,8 +7,10 @@ use native.Mathlib.Omega.{arith}
 use native.Mathlib.Decide.{ℕ-discrete}
 use lib.Arith.{bin-ind}
 use lib.Count.{ones, ones-step}
+use lib.ListN.{List·getD-eq-default}
 use lib.Pow.{pow-pos}
 use Rattle.gf2.specs.Counts.{Count, count-same, count-image}
+use Rattle.gf2.specs.Lists.{listTo, to-at, to-length}
 use Rattle.regular.specs.Pattern.{Pattern}
 use Rattle.regular.specs.Runs.{Runs}
 use Rattle.regular.specs.Words.{Word, letters, total}
@@ -59,3 +61,16 @@ module _ (n g : ℕ) (s : Runs) (ws : List ℕ) (gen : Generators n g s ws) wher
   -- the model is the pattern
   pub model-pattern : (p : List ℕ) → PatternModel n g ws p → Pattern n s p
   model-pattern p m = record { counts = λ l h k. subst (Count (λ w. Word n s w × (letters w ≡ l))) (sym (m .counts l h k)) (length-count l h) }
+
+  -- so there is one
+  pub generated-pattern : (p : List ℕ) × Pattern n s p
+  generated-pattern = (
+    p,
+    model-pattern p (record {
+      counts = λ l h k. let e : suc (l - 1) ≡ l = omega arith in to-at (λ i. products g ws (suc i)) n (l - 1) (omega arith) ∙ ap (products g ws) e;
+      unused = λ i h. List·getD-eq-default p 0 (omega (arith, to-length (λ i. products g ws (suc i)) n));
+    }),
+  )
+    where
+      p : List ℕ
+      p = listTo (λ i. products g ws (suc i)) n

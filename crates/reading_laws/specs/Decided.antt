@@ -1,26 +1,22 @@
 -- What the checks of an entry ask can be decided: dictionary order, entries, and the pattern of columns.
-use Prim.Native.Nat.{ℕ, zero, suc, _-_, _≤_}
-use mathlib.Core.Path.{_≡_, refl, ap, subst, _∙_}
+use Prim.Native.Nat.{ℕ, zero, suc, _-_}
+use mathlib.Core.Path.{_≡_, refl, subst, _∙_}
 use mathlib.Core.Logic.{_⊎_, inl, inr, ⊎-elim, by-cases}
 use mathlib.Core.List.{List, [], List-discrete}
 use native.Mathlib.Decide.{ℕ-discrete, map-dec}
 use native.Mathlib.Omega.{arith}
-use lib.ListN.{length, getD, take, drop, List·getD-eq-default}
-use Rattle.gf2.specs.Lists.{upto, upto-lt, upto-in, some-or-all, listTo, to-at, to-length}
+use lib.ListN.{length, getD, take, drop}
+use Rattle.gf2.specs.Lists.{upto, upto-lt, upto-in, some-or-all}
 use Rattle.regular.specs.Columns.{planOf, Spans}
 use Rattle.regular.specs.Pattern.{Pattern}
-use Rattle.regular.specs.Runs.{runsOf, switched}
+use Rattle.regular.specs.Runs.{runsOf}
 use Rattle.regular.specs.Smallest.{Before, Entry, Equal}
 use Rattle.regular.specs.Book.{patternLength, patternRecord}
 use Rattle.regular.specs.Reading.{columnsIn, patternPlace, EntryRises, TrueColumns, TruePattern}
 use Rattle.standard.specs.FromColumns.{spans-apart, runs-table}
-use Rattle.standard.specs.FromTable.{table-standard}
-use Rattle.standard.specs.Model.{standard, runTable}
-use Rattle.words.specs.ReducedWords.{words-generators}
-use Rattle.words.specs.Switches.{words-pattern, word-switched, word-switched-back, pattern-agree, agree-sym}
-use Rattle.words.specs.WordList.{wordsTo}
-use Rattle.counts.specs.Models.{products}
-use Rattle.counts.specs.WordCounts.{model-pattern}
+use Rattle.standard.specs.Model.{runTable}
+use Rattle.words.specs.Switches.{pattern-agree, agree-sym}
+use Rattle.counts.specs.PlanCounts.{table-pattern}
 use Rattle.smallest_laws.specs.Dictionary.{equal-sym, before-total, before-irrefl, not-both}
 use Rattle.smallest_laws.specs.Growth.{entry-equal}
 use Rattle.catalogue_laws.specs.Listing.{model-catalogue}
@@ -50,24 +46,8 @@ entry-or-not n m r c =
 pattern-some : (n m : ℕ) (c : List ℕ) → Spans n m c → (p : List ℕ) × Pattern n (planOf n m c) p
 pattern-some n m c sp =
     let t = runTable n m c in
-    let st = table-standard n m t (runs-table n m c (spans-apart n m c sp)) in
-    let s = switched (getD t 0 0) (runsOf t) in
-    let ws = wordsTo (standard t n) n in
-    let p = listTo (λ i. products (n - m) ws (suc i)) n in (
-      p,
-      pattern-agree n (runsOf t) (planOf n m c) (agree-sym (planOf n m c) (runsOf t) (plan-runs n m c)) p
-          (words-pattern n s (runsOf t) (word-switched-back n (getD t 0 0) (runsOf t)) (word-switched n (getD t 0 0) (runsOf t)) p
-          (model-pattern n (n - m) s ws (words-generators n m s (standard t n) st) p (record {
-            counts = λ l h k. to-at (λ i. products (n - m) ws (suc i)) n (l - 1) (omega arith) ∙ ap (products (n - m) ws) (back l h);
-            unused = λ i h. past i h (λ i. products (n - m) ws (suc i));
-          }))),
-    )
-  where
-    back : (l : ℕ) → 1 ≤ l → suc (l - 1) ≡ l
-    back l h = omega arith
-
-    past : (i : ℕ) → n ≤ i → (g : ℕ → ℕ) → getD (listTo g n) i 0 ≡ 0
-    past i h g = List·getD-eq-default (listTo g n) 0 (omega (arith, to-length g n))
+    let p = table-pattern n m t (runs-table n m c (spans-apart n m c sp)) in
+    (p .0, pattern-agree n (runsOf t) (planOf n m c) (agree-sym (planOf n m c) (runsOf t) (plan-runs n m c)) (p .0) (p .1))
 
 -- what is asked of entry i
 module _ (n g r : ℕ) (book : List ℕ) where

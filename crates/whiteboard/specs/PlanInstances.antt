@@ -14,10 +14,10 @@ use Rattle.gf2.specs.Digits.{odd}
 use Rattle.gf2.specs.Fill.{zeros}
 use Rattle.gf2.specs.Lists.{listTo}
 use Rattle.regular.specs.Sizes.{Size, Sized}
-use Rattle.regular.specs.Runs.{runsOf, switched, Regular, Table}
+use Rattle.regular.specs.Runs.{Runs, runsOf, switched, Regular, Table}
 use Rattle.regular.specs.Words.{Word, NoShort, Generated, total, Independent, Last, Reduced}
 use Rattle.regular.specs.Columns.{runOf, planOf, Below, Column, Spans, Listed, RunTable, Basic, StandardColumns, RunsOfPlan}
-use Rattle.regular.specs.Pattern.{Pattern, sumTo, Resolution, Distances, Better, LessAberration, ofLength}
+use Rattle.regular.specs.Pattern.{Pattern, sumTo, Resolution, Distances, lastLength, Better, LessAberration, AberrationCriterion, ofLength}
 use Rattle.regular.specs.Designs.{Holds, designOf, designBytes, design-holds}
 use Rattle.regular.specs.Comparisons.{Witness}
 use Rattle.regular.specs.Refusals.{Short}
@@ -32,8 +32,10 @@ use Rattle.words.specs.Model.{wordColumns, pivotsAt, freeBefore, reduced, lastO
 use Rattle.words.specs.ReducedWords.{words-columns-words}
 use Rattle.words.specs.Switches.{pattern-agree}
 use Rattle.words.specs.WordList.{wordsTo}
+use Rattle.counts.specs.Aberration.{less-criterion, criterion-less}
 use Rattle.counts.specs.FullFactorials.{resolution-some}
 use Rattle.counts.specs.Patterns.{pattern-unique}
+use Rattle.counts.specs.ShortWords.{none-short}
 use Rattle.isomorphism_laws.specs.KeptWords.{same-pattern, same-no-short}
 use Rattle.isomorphism_laws.specs.Link.{Units}
 use Rattle.smallest_laws.specs.Beating.{smallest-units}
@@ -248,13 +250,35 @@ no-short-full = whiteboard .1 .1 .0 5 (omega arith) (omega arith) .sound 0 (omeg
 pub distances-abc : Distances 4 (planOf 4 3 abc) 0 (1 ∷ 1 ∷ 3 ∷ 3 ∷ 0 ∷ [])
 distances-abc = runs-abc .distances
 
-pub better-abcd : Better 3 (0 ∷ 0 ∷ 0 ∷ 1 ∷ []) (0 ∷ 0 ∷ 1 ∷ 0 ∷ [])
+pub last-000 : lastLength 7 5 ≡ 7
+last-000 = refl
+
+pub not-last : lastLength 7 5 ≡ 5 → ⊥
+not-last e = omega arith
+
+pub better-abcd : Better 4 (0 ∷ 0 ∷ 0 ∷ 1 ∷ []) (0 ∷ 0 ∷ 1 ∷ 0 ∷ [])
 better-abcd = record { at = 3; from = omega arith; to = omega arith; before = λ l h k. absurd (omega arith); fewer = omega arith }
 
-pub not-better : Better 3 (0 ∷ 0 ∷ 1 ∷ 0 ∷ []) (0 ∷ 0 ∷ 0 ∷ 1 ∷ []) → ⊥
+pub not-better : Better 4 (0 ∷ 0 ∷ 1 ∷ 0 ∷ []) (0 ∷ 0 ∷ 0 ∷ 1 ∷ []) → ⊥
 not-better b =
+    by-cases (ℕ-discrete (b .at) 3)
+    (λ e. omega (arith, subst (λ (l : ℕ). ofLength (0 ∷ 0 ∷ 1 ∷ 0 ∷ []) l < ofLength (0 ∷ 0 ∷ 0 ∷ 1 ∷ []) l) e (b .fewer)))
+    (λ ne. omega (arith, b .before 3 (omega arith) (omega (arith, b .from))))
+
+-- counts that differ at the last letter alone: to length 4, and not to length 3, one is the better
+pub better-last : Better 4 (0 ∷ 0 ∷ 1 ∷ 0 ∷ []) (0 ∷ 0 ∷ 1 ∷ 1 ∷ [])
+better-last = record {
+  at = 4;
+  from = omega arith;
+  to = omega arith;
+  before = λ l h k. let e : l ≡ 3 = omega arith in rw e refl;
+  fewer = omega arith;
+}
+
+pub not-better-before : Better 3 (0 ∷ 0 ∷ 1 ∷ 0 ∷ []) (0 ∷ 0 ∷ 1 ∷ 1 ∷ []) → ⊥
+not-better-before b =
     let e : b .at ≡ 3 = omega (arith, b .from, b .to) in
-    omega (arith, subst (λ (l : ℕ). ofLength (0 ∷ 0 ∷ 1 ∷ 0 ∷ []) l < ofLength (0 ∷ 0 ∷ 0 ∷ 1 ∷ []) l) e (b .fewer))
+    omega (arith, subst (λ (l : ℕ). ofLength (0 ∷ 0 ∷ 1 ∷ 0 ∷ []) l < ofLength (0 ∷ 0 ∷ 1 ∷ 1 ∷ []) l) e (b .fewer))
 
 pub less-abcd : LessAberration 4 3 (Generated 4 1 (15 ∷ [])) (Generated 4 1 (7 ∷ []))
 less-abcd = record { p = 0 ∷ 0 ∷ 0 ∷ 1 ∷ []; q = 0 ∷ 0 ∷ 1 ∷ 0 ∷ []; of-t = words-abcd .pattern; of-s = words-abc .pattern; better = better-abcd }
@@ -277,14 +301,28 @@ less-000 = record {
 pub not-less : LessAberration 4 3 (Generated 4 1 (7 ∷ [])) (Generated 4 1 (15 ∷ [])) → ⊥
 not-less l =
     let b = l .better in
-    let e : b .at ≡ 3 = omega (arith, b .from, b .to) in
-    let fewer : ofLength (l .p) 3 < ofLength (l .q) 3 = subst (λ (k : ℕ). ofLength (l .p) k < ofLength (l .q) k) e (b .fewer) in
-    omega (
-      arith,
-      fewer,
-      pattern-unique 4 (Generated 4 1 (7 ∷ [])) (l .p) (0 ∷ 0 ∷ 1 ∷ 0 ∷ []) (l .of-t) (words-abc .pattern) 3 (omega arith) (omega arith),
-      pattern-unique 4 (Generated 4 1 (15 ∷ [])) (l .q) (0 ∷ 0 ∷ 0 ∷ 1 ∷ []) (l .of-s) (words-abcd .pattern) 3 (omega arith) (omega arith),
-    )
+    let abc-3 = pattern-unique 4 (Generated 4 1 (7 ∷ [])) (l .p) (0 ∷ 0 ∷ 1 ∷ 0 ∷ []) (l .of-t) (words-abc .pattern) 3 (omega arith) (omega arith) in
+    let abcd-3 = pattern-unique 4 (Generated 4 1 (15 ∷ [])) (l .q) (0 ∷ 0 ∷ 0 ∷ 1 ∷ []) (l .of-s) (words-abcd .pattern) 3 (omega arith) (omega arith) in
+    by-cases (ℕ-discrete (b .at) 3)
+    (λ e. omega (arith, subst (λ (k : ℕ). ofLength (l .p) k < ofLength (l .q) k) e (b .fewer), abc-3, abcd-3))
+    (λ ne. omega (arith, b .before 3 (omega arith) (omega (arith, b .from)), abc-3, abcd-3))
+
+-- the published criterion: of document 000's own example, and of ABC and ABCD. A pattern that begins with 0 0 has no word below three letters
+long-words : {n : ℕ} {s : Runs} (p : List ℕ) → Pattern n s (0 ∷ 0 ∷ p) → NoShort n 3 s
+long-words p pat =
+    none-short pat 3 (λ l some most few. by-cases (ℕ-discrete l 1) (λ e. rw e refl) (λ ne. let e : l ≡ 2 = omega arith in rw e refl))
+
+pub criterion-000 : AberrationCriterion 7 (Generated 7 2 (39 ∷ 94 ∷ [])) (Generated 7 2 (39 ∷ 89 ∷ []))
+criterion-000 =
+    less-criterion
+    (long-words (0 ∷ 1 ∷ 2 ∷ 0 ∷ 0 ∷ []) (printed-samples .0 .pattern))
+    (long-words (0 ∷ 2 ∷ 0 ∷ 1 ∷ 0 ∷ []) (printed-samples .1 .0 .pattern)) less-000
+
+pub not-criterion : AberrationCriterion 4 (Generated 4 1 (7 ∷ [])) (Generated 4 1 (15 ∷ [])) → ⊥
+not-criterion c =
+    let abc = words-abc .pattern in
+    let abcd = words-abcd .pattern in
+    not-less (criterion-less (long-words (1 ∷ 0 ∷ []) abc) (long-words (0 ∷ 1 ∷ []) abcd) abc abcd c)
 
 -- design records that hold an entry
 abbrev pub recordABC : Design

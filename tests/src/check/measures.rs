@@ -17,12 +17,12 @@ pub fn distances(n: usize, runs: &[u32]) -> Vec<u32> {
     (0..=n).map(|i| runs.iter().filter(|&&run| letters(run ^ runs[0]) == i).count() as u32).collect()
 }
 
-/// The first length from 3 to m at which two patterns differ.
-pub fn first_difference(m: usize, first: &[u32], second: &[u32]) -> Option<usize> {
-    (3..=m).find(|&length| first[length - 1] != second[length - 1])
+/// The first length from 3 to n at which two patterns differ.
+pub fn first_difference(n: usize, first: &[u32], second: &[u32]) -> Option<usize> {
+    (3..=n).find(|&length| first[length - 1] != second[length - 1])
 }
 
-/// Whether the second pattern is better: it has the smaller count at the first length from 3 to m that differs.
-pub fn second_is_better(m: usize, first: &[u32], second: &[u32]) -> bool {
-    first_difference(m, first, second).is_some_and(|length| second[length - 1] < first[length - 1])
+/// Whether the second pattern is better: it has the smaller count at the first length from 3 to n that differs.
+pub fn second_is_better(n: usize, first: &[u32], second: &[u32]) -> bool {
+    first_difference(n, first, second).is_some_and(|length| second[length - 1] < first[length - 1])
 }
