@@ -149,7 +149,10 @@ fn print_family(family: &Family) {
     });
     print_row("comparison", &of, pairs.len(), times);
     let words = word_pairs(family);
-    assert!(words.iter().all(|(a, b)| ALL.iter().all(|build| build.choice(*n, g, a, b) == ALL[0].choice(*n, g, a, b))), "{of}");
+    for (a, b) in &words {
+        let [chosen, others @ ..] = ALL.map(|build| build.choice(*n, g, a, b));
+        assert!(chosen != 0 && others == [chosen; ALL.len() - 1], "{of}: {chosen} and {others:?}");
+    }
     let times = measure(PASSES, words.len(), |build, i| {
         black_box(build.choice(*n, g, black_box(&words[i].0), black_box(&words[i].1)));
     });

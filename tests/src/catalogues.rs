@@ -117,12 +117,14 @@ pub fn confirm_entries(m: usize, r: usize, entries: &[Vec<u32>]) -> u128 {
     sets
 }
 
-/// How many different beginnings, from length 3 to m, the patterns of these plans have, and how many different patterns.
+/// How many different beginnings, from length 3 to m, the patterns of these plans have, and how many different patterns. Fails unless each
+/// counts 2^G - 1 words.
 pub fn patterns_and_beginnings(m: usize, entries: &Entries) -> (usize, usize) {
     let mut whole = BTreeSet::new();
     for entry in entries {
         let (n, mut pattern) = (entry.len(), vec![0; entry.len()]);
         assert_eq!(plan_pattern_of_columns(n, n - m, &bytes(entry), &mut pattern), 0, "{entry:?}");
+        assert_eq!(pattern.iter().sum::<u16>(), (1 << (n - m)) - 1, "{entry:?}: {pattern:?}");
         whole.insert(pattern);
     }
     let beginnings: BTreeSet<&[u16]> = whole.iter().map(|pattern| &pattern[2.min(m)..m]).collect();

@@ -96,63 +96,73 @@ fn damaged_pairs_are_refused_under_the_lowest_number_and_every_number_is_reached
     }
 }
 
-/// The words of a plan of m basic factors, by its columns.
-fn words(m: usize, columns: &[u32]) -> Vec<u32> {
-    Plan::new(columns.len(), columns.len() - m, Form::Columns, columns).answer(Question::Words)
+/// A plan of m basic factors by its columns: G words that generate it, and its pattern, by the checking program.
+fn known(m: usize, columns: &[u32]) -> (Vec<u32>, Vec<u32>) {
+    let words = Plan::new(columns.len(), columns.len() - m, Form::Columns, columns).answer(Question::Words);
+    (words, Known::new(m, columns).pattern)
 }
 
-/// The published criterion ranks by the first of all lengths: the better pattern comes first in dictionary order.
+/// The published criterion ranks by the first of all lengths that differs, so the better pattern comes first in dictionary order. Fails unless the
+/// library chooses by that in both orders. Returns the answer.
+fn chosen(n: usize, g: usize, (first, p): &(Vec<u32>, Vec<u32>), (second, q): &(Vec<u32>, Vec<u32>)) -> u8 {
+    let found = [compare_ranking(n, g, first, second).better, compare_ranking(n, g, second, first).better];
+    let published = [if q < p { 2 } else { 1 }, if p < q { 2 } else { 1 }];
+    assert_eq!(found, published, "n {n}, words {first:?} and {second:?}, patterns {p:?} and {q:?}");
+    found[0]
+}
+
 #[test]
 fn entries_of_every_size_up_to_10_factors_are_ranked_by_the_published_criterion_in_both_orders() {
     let mut better = [0; 3];
     for (n, m) in (1..=10).flat_map(|n| (1..=n.min(7)).map(move |m| (n, m))) {
         let (whole, entries) = entries(n, n - m, 3, 1_000);
         assert!(whole, "{n} factors, {m} of them basic");
-        let plans: Vec<(Vec<u32>, Vec<u32>)> = entries.iter().map(|entry| (words(m, entry), Known::new(m, entry).pattern)).collect();
-        for (k, (first, p)) in plans.iter().enumerate() {
-            for (second, q) in &plans[k..plans.len().min(k + 20)] {
-                for ((first, p), (second, q)) in [((first, p), (second, q)), ((second, q), (first, p))] {
-                    let found = compare_ranking(n, n - m, first, second).better;
-                    assert_eq!(found, if q < p { 2 } else { 1 }, "n {n}, words {first:?} and {second:?}, patterns {p:?} and {q:?}");
-                    better[found as usize] += 1;
-                }
+        let plans: Vec<_> = entries.iter().map(|entry| known(m, entry)).collect();
+        for (k, plan) in plans.iter().enumerate() {
+            for other in &plans[k..plans.len().min(k + 20)] {
+                better[chosen(n, n - m, plan, other) as usize] += 1;
             }
         }
     }
-    assert!(better[1] > 1_000 && better[2] > 1_000, "handed back: {better:?}");
+    assert!(better[1] > 900 && better[2] > 4_000, "handed back: {better:?}");
 }
 
 /// Document 000's Appendix B has plans of 128 runs in the order of the criterion. A row is used where its recomputed pattern is the printed one.
 #[test]
 fn appendix_b_stands_in_the_order_of_aberration() {
     let rows: Vec<Row> = rows().into_iter().filter(agrees).collect();
-    let mut ranked = 0;
+    let (mut better, mut equal) = (0, 0);
     for pair in rows.windows(2).filter(|pair| pair[0].k == pair[1].k) {
-        let [first, second] = [&pair[0], &pair[1]].map(|row| words(BASICS, &columns_with(&row.added)));
-        let found = compare_ranking(pair[0].k, pair[0].k - BASICS, &first, &second);
-        assert_eq!((found.refusal, found.better), (0, 1), "{pair:?}");
-        ranked += 1;
+        let [first, second] = [&pair[0], &pair[1]].map(|row| known(BASICS, &columns_with(&row.added)));
+        assert_eq!(chosen(pair[0].k, pair[0].k - BASICS, &first, &second), 1, "{pair:?}");
+        *if first.1 == second.1 { &mut equal } else { &mut better } += 1;
     }
-    assert!(ranked > 50, "only {ranked} pairs");
+    assert_eq!((better, equal), (54, 14), "pairs of which the first is better, and pairs of one pattern");
 }
 
-/// The first row of each size is the best plan of resolution 4 and up.
+/// The first row of each size has minimum aberration: no entry of the catalogue is better.
 #[test]
 fn no_plan_of_128_runs_and_up_to_12_factors_has_less_aberration_than_the_first_of_appendix_b() {
     for n in 8..=12 {
         let row = rows().into_iter().find(|row| row.k == n).expect("a row");
         assert!(agrees(&row), "{row:?}");
-        let best = words(BASICS, &columns_with(&row.added));
-        let (whole, entries) = entries(n, n - BASICS, 4, 1_000);
-        assert!(whole && entries.len() >= 5, "{n} factors: {} entries", entries.len());
-        for entry in &entries {
-            assert_eq!(compare_ranking(n, n - BASICS, &best, &words(BASICS, entry)).better, 1, "{row:?} and {entry:?}");
-        }
+        let best = known(BASICS, &columns_with(&row.added));
+        let (whole, entries) = entries(n, n - BASICS, 3, 10_000);
+        assert!(whole, "{n} factors");
+        let alike: Vec<bool> = entries
+            .iter()
+            .map(|entry| {
+                let entry = known(BASICS, entry);
+                assert_eq!(chosen(n, n - BASICS, &best, &entry), 1, "{row:?} and {entry:?}");
+                entry.1 == best.1
+            })
+            .collect();
+        assert!(alike.contains(&true) && alike.contains(&false), "{n} factors: {alike:?}");
     }
 }
 
-/// Document 000 found that patterns which agree up to length M agree wholly, for M up to 6, and conjectures it for M 7. So no plan of any size in
-/// bounds is ranked otherwise than document 01 ranked it, up to length M. A remark: the comparison goes to length N.
+/// Document 000 found in catalogues that patterns which agree up to length M agree wholly, and conjectures it for M 7 and up. Where it holds, no
+/// plan is ranked otherwise than up to length M, as document 01 had it: by this test, in every size. The comparison goes to length N all the same.
 #[test]
 fn patterns_that_agree_from_length_3_to_m_agree_wholly() {
     let (mut sizes, mut plans) = (0, 0);

@@ -10,7 +10,7 @@ ghost use Rattle.admission.specs.Admission.{Ready};
 use admission::lower_of;
 use regular::FACTORS;
 
-// Whether the plan of the second standard columns has less aberration than that of the first: patterns are compared to the last letter.
+// Whether the plan of the second standard columns has less aberration than that of the first.
 fn second_less(n: usize, g: usize, first: [u8; FACTORS], second: [u8; FACTORS]) -> bool
     requires { ⌜ Ready n g first × Ready n g second ⌝ }
     ensures { λ r. ⌜ Tells r (LessAberration n (n - g) (planOf n (n - g) second) (planOf n (n - g) first))

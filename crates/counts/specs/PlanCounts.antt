@@ -2,14 +2,19 @@
 use Prim.Native.Nat.{ℕ, _-_, _^_}
 use mathlib.Core.Path.{_≡_}
 use mathlib.Core.List.{List}
+use native.Mathlib.Omega.{arith}
 use lib.ListN.{getD}
 use Rattle.gf2.specs.Counts.{Count, count-same}
+use Rattle.regular.specs.Accepted.{accepted-words-size, accepted-within, accepted-independent}
 use Rattle.regular.specs.Pattern.{Pattern, sumTo}
+use Rattle.regular.specs.Refusals.{Lowest, wordsFaults}
 use Rattle.regular.specs.Runs.{Runs, Table, runsOf, switched}
-use Rattle.regular.specs.Words.{Word}
+use Rattle.regular.specs.Words.{Word, Generated}
 use Rattle.standard.specs.Form.{StandardFor}
 use Rattle.standard.specs.Model.{standard}
 use Rattle.standard.specs.FromTable.{table-standard}
+use Rattle.words.specs.FromWords.{words-standard}
+use Rattle.words.specs.Model.{wordColumns, pivotsAt}
 use Rattle.words.specs.WordList.{wordsTo}
 use Rattle.words.specs.ReducedWords.{words-generators}
 use Rattle.words.specs.Switches.{word-switched, word-switched-back, words-pattern, pattern-switched}
@@ -26,6 +31,13 @@ module _ (n m : ℕ) (s : Runs) (a : List ℕ) (st : StandardFor n m s a) where
 
   pub plan-pattern-sum : (p : List ℕ) → Pattern n s p → sumTo n p ≡ 2 ^ (n - m) - 1
   plan-pattern-sum p h = pattern-sum n (n - m) s (wordsTo a n) p (words-generators n m s a st) h
+
+-- the plan of words without a fault
+pub accepted-pattern : (n g : ℕ) (ws : List ℕ) → Lowest (wordsFaults n g ws) 0 → (p : List ℕ) × Pattern n (Generated n g ws) p
+accepted-pattern n g ws l =
+    let z = accepted-words-size n g ws l in
+    plan-pattern n (n - g) (Generated n g ws) (wordColumns (pivotsAt ws n g) n)
+    (words-standard n g ws (z .most) (omega (arith, z .less)) (accepted-within n g ws l) (accepted-independent n g ws l))
 
 -- a plan whose columns are those of the plan with the factors in v switched
 pub switched-words : (n m v : ℕ) (s : Runs) (a : List ℕ) → StandardFor n m (switched v s) a → Count (Word n s) (2 ^ (n - m) - 1)

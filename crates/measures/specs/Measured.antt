@@ -8,15 +8,12 @@ use Rattle.regular.specs.Columns.{planOf}
 use Rattle.regular.specs.Pattern.{Pattern, Resolution, Distances}
 use Rattle.regular.specs.Refusals.{LentFault, either, Gives, Fills}
 use Rattle.regular.specs.Runs.{Runs, Agree, switched}
-use Rattle.regular.specs.Words.{NoShort}
 use Rattle.regular.specs.Given.{Given}
 use Rattle.regular.specs.Measures.{PatternInto, ResolutionOf, ResolutionInto, DistancesInto}
 use Rattle.regular.specs.declared.Admitted.{Admitted}
-use Rattle.words.specs.Short.{distinct-long}
 use Rattle.words.specs.Switches.{agree-sym, pattern-agree, resolution-agree, distances-agree, switched-twice}
-use Rattle.words.specs.Switches.{pattern-switched, resolution-switched, no-short-switched, distances-switched}
+use Rattle.words.specs.Switches.{pattern-switched, resolution-switched, distances-switched}
 use Rattle.counts.specs.Models.{firstLength}
-use Rattle.counts.specs.PlanCounts.{plan-pattern}
 use Rattle.counts.specs.Resolutions.{resolution-of-pattern}
 use Rattle.lent.specs.Copied.{Starts}
 use Rattle.lent.specs.Lends.{Lends, lends-means, lends-part, lends-fills}
@@ -75,16 +72,6 @@ module _ {n g : ℕ} {p : Given} {a : Admitted} (ad : Admission n g p a) where
 
   pub pattern-columns : a .number ≡ 0 → (c : List ℕ) → Pattern n (p .plan) c → Pattern n (planOf n (n - g) (a .columns)) c
   pattern-columns e c h = pattern-agree n (switched (a .run) (p .plan)) columns (ad .standard e .plan) c (pattern-back n (a .run) (p .plan) c h)
-
-  -- an accepted plan has a pattern, and no word below three letters
-  pub given-pattern : a .number ≡ 0 → (c : List ℕ) × Pattern n (p .plan) c
-  given-pattern e =
-      let c = plan-pattern n (n - g) (switched (a .run) (p .plan)) (a .columns) (ad .standard e) in
-      (c .0, pattern-switched n (a .run) (p .plan) (c .0) (c .1))
-
-  pub given-long : a .number ≡ 0 → NoShort n 3 (p .plan)
-  given-long e =
-      no-short-switched n (a .run) (p .plan) 3 (distinct-long n (n - g) (switched (a .run) (p .plan)) (a .columns) (ad .standard e) (ad .distinct e))
 
   distances-given : a .number ≡ 0 → (c : List ℕ) → Distances n columns 0 c → (x : ℕ) → p .start x → Distances n (p .plan) x c
   distances-given e c h x from =

@@ -265,8 +265,8 @@ not-better b =
     (λ e. omega (arith, subst (λ (l : ℕ). ofLength (0 ∷ 0 ∷ 1 ∷ 0 ∷ []) l < ofLength (0 ∷ 0 ∷ 0 ∷ 1 ∷ []) l) e (b .fewer)))
     (λ ne. omega (arith, b .before 3 (omega arith) (omega (arith, b .from))))
 
--- counts that differ at the last letter alone: to length 4, and not to length 3, one is the better
-pub better-last : Better 4 (0 ∷ 0 ∷ 1 ∷ 0 ∷ []) (0 ∷ 0 ∷ 1 ∷ 1 ∷ [])
+-- counts for N 5, M 3, of no plans, that agree up to length M and not wholly: up to length 5 one is the better, up to length 3 it is not
+pub better-last : Better 5 (0 ∷ 0 ∷ 1 ∷ 1 ∷ 1 ∷ []) (0 ∷ 0 ∷ 1 ∷ 2 ∷ 0 ∷ [])
 better-last = record {
   at = 4;
   from = omega arith;
@@ -275,10 +275,10 @@ better-last = record {
   fewer = omega arith;
 }
 
-pub not-better-before : Better 3 (0 ∷ 0 ∷ 1 ∷ 0 ∷ []) (0 ∷ 0 ∷ 1 ∷ 1 ∷ []) → ⊥
+pub not-better-before : Better 3 (0 ∷ 0 ∷ 1 ∷ 1 ∷ 1 ∷ []) (0 ∷ 0 ∷ 1 ∷ 2 ∷ 0 ∷ []) → ⊥
 not-better-before b =
     let e : b .at ≡ 3 = omega (arith, b .from, b .to) in
-    omega (arith, subst (λ (l : ℕ). ofLength (0 ∷ 0 ∷ 1 ∷ 0 ∷ []) l < ofLength (0 ∷ 0 ∷ 1 ∷ 1 ∷ []) l) e (b .fewer))
+    omega (arith, subst (λ (l : ℕ). ofLength (0 ∷ 0 ∷ 1 ∷ 1 ∷ 1 ∷ []) l < ofLength (0 ∷ 0 ∷ 1 ∷ 2 ∷ 0 ∷ []) l) e (b .fewer))
 
 pub less-abcd : LessAberration 4 3 (Generated 4 1 (15 ∷ [])) (Generated 4 1 (7 ∷ []))
 less-abcd = record { p = 0 ∷ 0 ∷ 0 ∷ 1 ∷ []; q = 0 ∷ 0 ∷ 1 ∷ 0 ∷ []; of-t = words-abcd .pattern; of-s = words-abc .pattern; better = better-abcd }
