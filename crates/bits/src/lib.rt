@@ -8,7 +8,11 @@ ghost use Rattle.gf2.specs.Digits.{bit, odd};
 pub fn parity(j: u16, c: u16) -> u16
     ensures { λ r. ⌜ (r ≡ odd j c) × (r < 2) ⌝ }
 {
-    (u16::count_ones(j & c) & 1) as u16
+    let x = j & c;
+    let x = x ^ (x >> 8);
+    let x = x ^ (x >> 4);
+    let x = x ^ (x >> 2);
+    (x ^ (x >> 1)) & 1
 }
 
 // Bit f of x.
