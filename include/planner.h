@@ -33,7 +33,7 @@
 #include <stddef.h>
 #include <stdint.h>
 
-#define PLANNER_VERSION "0.3.1"
+#define PLANNER_VERSION "0.3.2"
 
 /* The most factors, basic factors and runs that a plan may have. So many places are enough for any list that a call on one or two plans fills.
  * Distance counts need one more than PLAN_FACTORS. Catalogues, books and several plans need more. */

@@ -2,8 +2,10 @@
 //! one copy takes more than the other comes from its place in memory and from the machine alone.
 
 use crate::choice::word_pairs;
-use crate::families::Family;
+use crate::families::{full_factorials, Family};
 use crate::mean;
+use plan_tests::random::Random;
+use plan_tests::samples::{table, Sample};
 use planner::PLAN_SAME;
 use std::hint::black_box;
 use std::time::Instant;
@@ -12,7 +14,7 @@ use std::time::Instant;
 const PASSES: usize = 60;
 
 /// The least passes for a catalogue: more if they fit into half a second each.
-const CATALOGUE_PASSES: usize = 15;
+const CATALOGUE_PASSES: usize = 40;
 const CATALOGUE_TIME: f64 = 5e5;
 
 /// N, G and R of the catalogues that are measured.
@@ -30,7 +32,7 @@ pub struct Answer {
 
 /// A build of the library, by the names of its functions.
 macro_rules! build {
-    ($name:ident, $compare:literal, $choose:literal, $smallest:literal, $catalogue:literal) => {
+    ($name:ident, $compare:literal, $choose:literal, $columns:literal, $smallest:literal, $catalogue:literal) => {
         mod $name {
             use super::Answer;
             extern "C" {
@@ -38,6 +40,8 @@ macro_rules! build {
                 pub fn compare(n: usize, g: usize, a: *const u8, len: usize, b: *const u8, also: usize, w: *mut u8, names: usize) -> u32;
                 #[link_name = $choose]
                 pub fn choose(n: usize, g: usize, a: *const u16, len: usize, b: *const u16, also: usize) -> u8;
+                #[link_name = $columns]
+                pub fn columns(n: usize, g: usize, a: *const u16, len: usize, columns: *mut u8, places: usize) -> u8;
                 #[link_name = $smallest]
                 pub fn smallest(
                     n: usize,
@@ -54,18 +58,40 @@ macro_rules! build {
                 #[link_name = $catalogue]
                 pub fn catalogue(n: usize, g: usize, r: usize, list: *mut u8, len: usize) -> Answer;
             }
-            pub const BUILD: super::Build = super::Build { compare, choose, smallest, catalogue };
+            pub const BUILD: super::Build = super::Build { compare, choose, columns, smallest, catalogue };
         }
     };
 }
 
-build!(ours, "plan_compare_columns", "plan_less_aberration", "plan_smallest_of_columns", "plan_catalogue");
-build!(ours_again, "again_plan_compare_columns", "again_plan_less_aberration", "again_plan_smallest_of_columns", "again_plan_catalogue");
-build!(other, "other_plan_compare_columns", "other_plan_less_aberration", "other_plan_smallest_of_columns", "other_plan_catalogue");
+build!(
+    ours,
+    "ours_plan_compare_columns",
+    "ours_plan_less_aberration",
+    "ours_plan_columns_of_runs",
+    "ours_plan_smallest_of_columns",
+    "ours_plan_catalogue"
+);
+build!(
+    ours_again,
+    "ours_again_plan_compare_columns",
+    "ours_again_plan_less_aberration",
+    "ours_again_plan_columns_of_runs",
+    "ours_again_plan_smallest_of_columns",
+    "ours_again_plan_catalogue"
+);
+build!(
+    other,
+    "other_plan_compare_columns",
+    "other_plan_less_aberration",
+    "other_plan_columns_of_runs",
+    "other_plan_smallest_of_columns",
+    "other_plan_catalogue"
+);
 build!(
     other_again,
     "other_again_plan_compare_columns",
     "other_again_plan_less_aberration",
+    "other_again_plan_columns_of_runs",
     "other_again_plan_smallest_of_columns",
     "other_again_plan_catalogue"
 );
@@ -73,6 +99,7 @@ build!(
 struct Build {
     compare: unsafe extern "C" fn(usize, usize, *const u8, usize, *const u8, usize, *mut u8, usize) -> u32,
     choose: unsafe extern "C" fn(usize, usize, *const u16, usize, *const u16, usize) -> u8,
+    columns: unsafe extern "C" fn(usize, usize, *const u16, usize, *mut u8, usize) -> u8,
     smallest: unsafe extern "C" fn(usize, usize, *const u8, usize, *const u8, usize, *mut u8, usize, *mut u8, usize) -> Answer,
     catalogue: unsafe extern "C" fn(usize, usize, usize, *mut u8, usize) -> Answer,
 }
@@ -89,6 +116,14 @@ impl Build {
     fn choice(&self, n: usize, g: usize, a: &[u16], b: &[u16]) -> u8 {
         // SAFETY: as above.
         unsafe { (self.choose)(n, g, a.as_ptr(), a.len(), b.as_ptr(), b.len()) }
+    }
+
+    fn columns(&self, n: usize, g: usize, runs: &[u16]) -> [u8; 16] {
+        let mut columns = [0; 16];
+        // SAFETY: as above.
+        let number = unsafe { (self.columns)(n, g, runs.as_ptr(), runs.len(), columns.as_mut_ptr(), columns.len()) };
+        assert_eq!(number, 0, "the table is accepted");
+        columns
     }
 
     fn smallest(&self, n: usize, g: usize, a: &[u8]) -> [u8; 16] {
@@ -139,28 +174,65 @@ fn print_row(call: &str, of: &str, number: usize, [ours, other, ours_again, othe
     );
 }
 
-/// The comparison of the pairs, the choice between them by words, then the smallest forms of their second plans.
-fn print_family(family: &Family) {
-    let Family { kind, n, m, same, pairs } = family;
-    let (g, of) = (n - m, format!("{kind}, N {n}, M {m}"));
+/// What a row of a family is of.
+fn title(family: &Family) -> String {
+    format!("{}, N {}, M {}", family.kind, family.n, family.m)
+}
+
+/// The comparison of the pairs.
+fn print_comparison(family: &Family) {
+    let Family { n, m, same, pairs, .. } = family;
+    let (g, of) = (n - m, title(family));
     assert!(ALL.iter().all(|build| pairs.iter().all(|(a, b)| build.same(*n, g, a, b) == *same)), "{of}");
     let times = measure(PASSES, pairs.len(), |build, i| {
         black_box(build.same(*n, g, black_box(&pairs[i].0), black_box(&pairs[i].1)));
     });
     print_row("comparison", &of, pairs.len(), times);
-    let words = word_pairs(family);
+}
+
+/// The choice between the pairs by words.
+fn print_choice(family: &Family) {
+    let (n, g, of, words) = (family.n, family.n - family.m, title(family), word_pairs(family));
     for (a, b) in &words {
-        let [chosen, others @ ..] = ALL.map(|build| build.choice(*n, g, a, b));
+        let [chosen, others @ ..] = ALL.map(|build| build.choice(n, g, a, b));
         assert!(chosen != 0 && others == [chosen; ALL.len() - 1], "{of}: {chosen} and {others:?}");
     }
     let times = measure(PASSES, words.len(), |build, i| {
-        black_box(build.choice(*n, g, black_box(&words[i].0), black_box(&words[i].1)));
+        black_box(build.choice(n, g, black_box(&words[i].0), black_box(&words[i].1)));
     });
     print_row("choice", &of, words.len(), times);
-    let times = measure(PASSES, pairs.len(), |build, i| {
-        black_box(build.smallest(*n, g, black_box(&pairs[i].1)));
+}
+
+/// The run tables of the second plans, in any order and with some levels switched.
+fn tables(family: &Family) -> Vec<Vec<u16>> {
+    let mut random = Random::new(0x7ab1);
+    let mut runs = |columns: &[u8]| {
+        let columns = columns.iter().map(|&column| u32::from(column)).collect();
+        table(&mut random, &Sample { n: family.n, m: family.m, columns }).iter().map(|&run| run as u16).collect()
+    };
+    family.pairs.iter().map(|(_, second)| runs(second)).collect()
+}
+
+/// The columns of these tables.
+fn print_columns(family: &Family) {
+    let (n, g, of, tables) = (family.n, family.n - family.m, title(family), tables(family));
+    for runs in &tables {
+        let [columns, others @ ..] = ALL.map(|build| build.columns(n, g, runs));
+        assert!(others == [columns; ALL.len() - 1], "{of}: {columns:?} and {others:?}");
+    }
+    let times = measure(PASSES, tables.len(), |build, i| {
+        black_box(build.columns(n, g, black_box(&tables[i])));
     });
-    print_row("smallest form", &of, pairs.len(), times);
+    print_row("columns of runs", &of, tables.len(), times);
+}
+
+/// The smallest forms of the second plans.
+fn print_smallest(family: &Family) {
+    let Family { n, m, pairs, .. } = family;
+    let times = measure(PASSES, pairs.len(), |build, i| {
+        black_box(build.smallest(*n, n - m, black_box(&pairs[i].1)));
+    });
+    print_row("smallest form", &title(family), pairs.len(), times);
 }
 
 fn print_catalogue(size: (usize, usize, usize), list: &mut [u8]) {
@@ -173,7 +245,13 @@ fn print_catalogue(size: (usize, usize, usize), list: &mut [u8]) {
 pub fn print(families: &[Family]) {
     println!("| call | of | number | library | other build | library / other | library's copies | other's copies |");
     println!("|---|---|---|---|---|---|---|---|");
-    families.iter().for_each(print_family);
+    for family in families {
+        print_comparison(family);
+        print_choice(family);
+        print_columns(family);
+        print_smallest(family);
+    }
+    full_factorials().iter().for_each(print_columns);
     let mut list = vec![0; 16 * MOST_ENTRIES];
     CATALOGUES.into_iter().for_each(|size| print_catalogue(size, &mut list));
 }

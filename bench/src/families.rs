@@ -130,3 +130,9 @@ pub fn symmetric_plans() -> Vec<Family> {
     }
     families
 }
+
+/// Full factorials of every size against disguises of themselves: run tables in which no factor follows from the others.
+#[cfg(feature = "beside")]
+pub fn full_factorials() -> Vec<Family> {
+    (1..=7).map(|m| same(m, m, "full factorial", Draw::Any)).collect()
+}

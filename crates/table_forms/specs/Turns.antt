@@ -4,15 +4,17 @@ use mathlib.Core.Logic.{by-cases}
 use mathlib.Core.List.{List}
 use Prim.Native.Nat.{ℕ, _+_, _*_, _^_, _<_, _≤_}
 use native.Mathlib.Omega.{arith}
-use native.Mathlib.Decide.{ℕ-discrete}
+use native.Mathlib.Decide.{ℕ-discrete, decLt}
+use borrow.Author.Count.{below-more}
 use lib.Arith.{digits-lt}
+use lib.Bits.{bitXor, bitOr, or-add-and, and-le-l, and-le-r, xor-self}
 use lib.Pow.{pow-pos}
 use lib.ListN.{length, getD, set, replicate, length-set}
 use lib.Seq.{getD-set-same, getD-set-other}
-use Rattle.gf2.specs.Digits.{bit}
-use Rattle.gf2.specs.DigitLaws.{low-bit, bit-top, pow-most}
+use Rattle.gf2.specs.Digits.{bit, odd}
+use Rattle.gf2.specs.DigitLaws.{low-bit, bit-top, pow-most, xor-none}
 use Rattle.gf2.specs.Fill.{zeros}
-use Rattle.table_forms.specs.Walk.{diffAt, Latest, Read, LevelsExtended}
+use Rattle.table_forms.specs.Walk.{diffAt, Latest, Read, LevelsExtended, FitsAt, FitsFrom}
 
 -- the last run with given levels
 pub latest-none : (count : ℕ) (coords : List ℕ) → 0 < count → Latest count 0 coords (replicate 128 0)
@@ -78,3 +80,29 @@ extend-more t c₀ c f half k v h x e =
           (λ ne. getD-set-other c k i v 0 ne ∙ x .made i (omega arith));
       kept = λ i l. getD-set-other c k i v 0 (λ p. omega arith) ∙ x .kept i (omega arith);
     }
+
+-- the levels that do not fit: none yet, and one more run
+or-none : (a b : ℕ) → bitOr a b ≡ 0 → (a ≡ 0) × (b ≡ 0)
+or-none a b e =
+    let s = or-add-and a b in
+    let l = and-le-l a b in
+    let r = and-le-r a b in
+    (omega arith, omega arith)
+
+pub fits-none : (t coords : List ℕ) (f k a : ℕ) → FitsFrom t coords f k a a 0
+fits-none t coords f k a = record { all = λ e i l h. absurd (omega arith); some = λ ne. absurd (ne refl) }
+
+pub fits-more : (t coords : List ℕ) (f k a b wrong x y : ℕ) → a ≤ b → x ≡ bit f (diffAt t b) → y ≡ odd (getD coords b 0) k
+    → FitsFrom t coords f k a b wrong → FitsFrom t coords f k a (b + 1) (bitOr wrong (bitXor x y))
+fits-more t coords f k a b wrong x y l ex ey h =
+    record {
+      all = λ e. let p = or-none wrong (bitXor x y) e in below-more _ _ (h .all (p .0)) (λ _. sym ex ∙ xor-none x y (p .1) ∙ ey);
+      some = λ ne. by-cases (ℕ-discrete wrong 0)
+          (λ z. (b, (omega arith, (l, λ q. ne (ap₂ bitOr z (ap (λ (v : ℕ). bitXor v y) (ex ∙ q ∙ sym ey) ∙ xor-self y))))))
+          (λ nz. let s = h .some nz in (s .0, (omega (arith, s .1 .0), s .1 .1)));
+    }
+
+-- the runs after those that fit
+pub fits-joined : (t coords : List ℕ) (f k a b wrong : ℕ) → ((i : ℕ) → i < a → FitsAt t coords f k i) → FitsFrom t coords f k a b wrong → wrong ≡ 0
+    → (i : ℕ) → i < b → FitsAt t coords f k i
+fits-joined t coords f k a b wrong before h e i l = by-cases (decLt i a) (before i) (λ n. h .all e i l (omega arith))

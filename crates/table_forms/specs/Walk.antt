@@ -51,6 +51,11 @@ pub record Fitting (t coords : List ℕ) (f k : ℕ) (ok : Bool) : Type 0 where
   pub all : ok ≡ true → (i : ℕ) → i < length t → FitsAt t coords f k i
   pub some : ok ≡ false → (i : ℕ) × ((i < length t) × (FitsAt t coords f k i → ⊥))
 
+-- wrong is 0 exactly if column k gives factor f its level in each run from a to before b
+pub record FitsFrom (t coords : List ℕ) (f k a b wrong : ℕ) : Type 0 where
+  pub all : wrong ≡ 0 → (i : ℕ) → i < b → a ≤ i → FitsAt t coords f k i
+  pub some : (wrong ≡ 0 → ⊥) → (i : ℕ) × ((i < b) × ((a ≤ i) × (FitsAt t coords f k i → ⊥)))
+
 -- c is c₀ with the level of factor f put above the levels of each of the first k runs
 pub record LevelsExtended (t c₀ c : List ℕ) (f half k : ℕ) : Type 0 where
   pub size : length c ≡ 128

@@ -8,9 +8,12 @@ ghost use lib.ListN.{length, getD};
 ghost use Rattle.gf2.specs.Members.{In};
 ghost use Rattle.regular.specs.Runs.{Table, switched, runsOf};
 ghost use Rattle.standard.specs.Finding.{StandardFound};
-ghost use Rattle.table_forms.specs.Walk.{Latest, Candidate, Fitting, LevelsExtended, TableWalk, ColumnGiven, BasicAdded, WalkReached, AllLast};
+ghost use Rattle.table_forms.specs.Walk.{Latest, Candidate, FitsFrom, Fitting, LevelsExtended, TableWalk, ColumnGiven, BasicAdded, WalkReached, AllLast};
 use regular::FACTORS;
 use regular::RUNS;
+
+// So many runs are looked at first. A factor that follows from none of the basic ones nearly always shows it there.
+const FIRST_RUNS: usize = 16;
 
 // Whether every run is below `end`.
 pub fn all_below(t: &[u16], end: usize) -> bool
@@ -90,19 +93,36 @@ fn candidate(
     }
 }
 
-// Whether column k gives factor f its level in every run, the first run switched to 0.
+// 0 exactly if column k gives factor f its level in each run from `from` to before `end`, the first run switched to 0. No branch and no end of
+// the loop depends on a run or on the column, so that several runs are taken at a time.
+fn misfits(t: &[u16], coords: &[u16; RUNS], f: usize, k: u16, from: usize, end: usize) -> u16
+    requires { ⌜ (f < 16) × (from ≤ end) × (end ≤ length (now t)) × (length (now t) ≤ 128) ⌝ }
+    ensures { λ r. ⌜ FitsFrom (now (t .entry)) (now (coords .entry)) f k from end r ⌝ }
+{
+    let mut wrong: u16 = 0;
+    let mut i = from;
+    while i < end {
+        wrong = wrong | (bits::level(t[i] ^ t[0], f) ^ bits::parity(coords[i], k));
+        i += 1;
+    }
+    wrong
+}
+
+// Whether column k gives factor f its level in every run, the first run switched to 0. After the first runs as many again are looked at, and so on.
 fn fits(t: &[u16], coords: &[u16; RUNS], f: usize, k: u16) -> bool
     requires { ⌜ (f < 16) × (length (now t) ≤ 128) ⌝ }
     ensures { λ r. ⌜ Fitting (now (t .entry)) (now (coords .entry)) f k r ⌝ }
 {
-    let mut i = 0;
-    while i < t.len() {
-        if bits::level(t[i] ^ t[0], f) != bits::parity(coords[i], k) {
+    let mut from = 0;
+    let mut end = FIRST_RUNS;
+    while end < t.len() {
+        if misfits(t, coords, f, k, from, end) != 0 {
             return false;
         }
-        i += 1;
+        from = end;
+        end += end;
     }
-    true
+    misfits(t, coords, f, k, from, t.len()) == 0
 }
 
 // The basic levels with factor f as one more basic factor.
