@@ -8,7 +8,6 @@ use lib.Bits.{bitXor, bitAnd, and-mask, and-le-l}
 use lib.Pow.{pow-pos, mod-pow-add}
 use lib.Count.{ones, ones-cat}
 use Rattle.gf2.specs.Digits.{odd}
-use Rattle.gf2.specs.DigitLaws.{mod-sum}
 use Rattle.gf2.specs.Parity.{odd-comm, odd-bit, odd-lin-l}
 
 -- x with its digits from place k on put over its digits from place 0 on
