@@ -2,8 +2,8 @@
  *
  *     cc planner.c $(pkg-config --cflags --libs planner) -o planner
  *
- * Every call is made the same way: sizes first (a book has its own), then lists, each with its count; the answer is 0 or the number of a
- * refusal. */
+ * Every call is made the same way: sizes first (a book has its own), then lists, each with its count, and signs after words; the answer is 0
+ * or the number of a refusal. A plan in bytes has PLAN_BYTES(N) of them. */
 #include "planner.h"
 
 #include <stdio.h>
@@ -11,14 +11,16 @@
 #include <string.h>
 
 static const char usage[] =
-    "planner compare N G COLUMNS COLUMNS   whether two plans are the same, by columns\n"
-    "planner tables N G RUNS RUNS          whether two plans are the same, by run tables\n"
-    "planner smallest N G R COLUMNS        a plan's smallest form, and its place in the catalogue\n"
-    "planner catalogue N G R               every plan of a size: resolution, columns, words, pattern\n"
-    "planner runs N G R PLACE              the run table of an entry: + is high, - low\n"
-    "planner book N G R FILE               the catalogue as a book, in a file\n"
-    "planner read FILE                     what a book has, or why it is refused\n"
-    "N factors, G generators, no word of fewer than R letters. Lists as 1,2,4,7.\n"
+    "planner show N G PLAN           a plan's columns, switches, words and run table: + is high, - low\n"
+    "planner compare N G PLAN PLAN   whether two plans are the same\n"
+    "planner tables N G RUNS RUNS    whether two plans are the same, by run tables\n"
+    "planner smallest N G R PLAN     a plan's smallest form, and its place in the catalogue\n"
+    "planner catalogue N G R         every plan of a size: resolution, columns, words, pattern\n"
+    "planner runs N G R PLACE        the run table of an entry\n"
+    "planner book N G R FILE         the catalogue as a book, in a file\n"
+    "planner read FILE               what a book has, or why it is refused\n"
+    "N factors, G generators, no word of fewer than R letters. A PLAN is its columns, as 1,2,4,7,\n"
+    "or its words, as ABC,-CDE, with - for minus. RUNS as 0,5,6,3.\n"
     "Exit status: 0, or 1 for plans that are different, or 2 if refused.\n";
 
 /* The exit statuses. */
@@ -65,20 +67,76 @@ static struct list parse_list(const char *text)
     return list;
 }
 
-/* The list as bytes. No column is above 127: a larger number stays one that is refused. */
-struct columns {
-    uint8_t bytes[PLAN_RUNS + 1];
+/* A word: its letters, each once. */
+static uint16_t parse_word(const char *text, size_t length)
+{
+    uint16_t word = 0;
+    for (size_t i = 0; i < length; i++) {
+        const char *letter = strchr(letters, text[i]);
+        if (letter == NULL || word >> (letter - letters) & 1) {
+            fprintf(stderr, "not a word: %.*s\n", (int)length, text);
+            exit(REFUSED);
+        }
+        word |= (uint16_t)(1u << (letter - letters));
+    }
+    return word;
+}
+
+/* Words with their signs: as many places as the signs have bits, and one more, so that a longer list is refused for its count. */
+struct words {
+    uint16_t words[PLAN_FACTORS + 1];
+    uint16_t signs;
     size_t count;
 };
 
-static struct columns parse_columns(const char *text)
+static struct words parse_words(const char *text)
+{
+    struct words list = {{0}, 0, 0};
+    while (*text != '\0' && list.count <= PLAN_FACTORS) {
+        int minus = *text == '-';
+        text += minus;
+        size_t length = strcspn(text, ",");
+        if (minus && list.count < PLAN_FACTORS) {
+            list.signs |= (uint16_t)(1u << list.count);
+        }
+        list.words[list.count++] = parse_word(text, length);
+        text += length + (text[length] == ',');
+    }
+    return list;
+}
+
+/* The bytes of a plan, as many as a list has. No column is above 127: a larger number stays one that is refused. */
+struct plan {
+    uint8_t bytes[PLAN_BYTES(PLAN_RUNS + 1)];
+    size_t count;
+};
+
+/* Columns, with nothing switched. */
+static struct plan parse_columns(const char *text)
 {
     struct list numbers = parse_list(text);
-    struct columns columns = {{0}, numbers.count};
+    struct plan plan = {{0}, PLAN_BYTES(numbers.count)};
     for (size_t i = 0; i < numbers.count; i++) {
-        columns.bytes[i] = (uint8_t)(numbers.numbers[i] > UINT8_MAX ? UINT8_MAX : numbers.numbers[i]);
+        plan.bytes[i] = (uint8_t)(numbers.numbers[i] > UINT8_MAX ? UINT8_MAX : numbers.numbers[i]);
     }
-    return columns;
+    return plan;
+}
+
+static int refuse(unsigned number);
+
+/* A plan by columns or by words, which are told apart by their first character. */
+static struct plan parse_plan(size_t n, size_t g, const char *text)
+{
+    if (*text >= '0' && *text <= '9') {
+        return parse_columns(text);
+    }
+    struct words list = parse_words(text);
+    struct plan plan = {{0}, PLAN_BYTES(n)};
+    uint8_t number = plan_columns_of_words(n, g, list.words, list.count, list.signs, plan.bytes, sizeof plan.bytes);
+    if (number != PLAN_ACCEPTED) {
+        exit(refuse(number));
+    }
+    return plan;
 }
 
 /* ---- printing */
@@ -90,8 +148,8 @@ static int refuse(unsigned number)
         [PLAN_REFUSED_GENERATORS] = "G is not below N, or N - G is above 7",
         [PLAN_REFUSED_RESOLUTION] = "R is not from 3 to 16",
         [PLAN_REFUSED_COUNT] = "a list has not the right count",
-        [PLAN_REFUSED_RANGE] = "a number is too large",
-        [PLAN_REFUSED_DEPENDENT] = "columns of too low a rank, or runs repeated or not regular",
+        [PLAN_REFUSED_RANGE] = "a number is too large, or a letter is past the last factor",
+        [PLAN_REFUSED_DEPENDENT] = "words dependent, columns of too low a rank, or runs repeated or not regular",
         [PLAN_REFUSED_SHORT_WORD] = "the plan has a word of fewer than three letters",
         [PLAN_REFUSED_PLACES] = "a lent list is too short",
         [PLAN_REFUSED_ROOM] = "the catalogue has more entries than there is room for",
@@ -113,10 +171,39 @@ static void print_letters(uint16_t set)
     }
 }
 
+/* Words as people write them: - for minus. */
+static void print_words(const uint16_t *words, uint16_t signs, size_t count)
+{
+    for (size_t i = 0; i < count; i++) {
+        printf(signs >> i & 1 ? " -" : " ");
+        print_letters(words[i]);
+    }
+}
+
+/* The factors whose levels are switched. */
+static void print_switched(uint16_t mask)
+{
+    printf("switched ");
+    print_letters(mask);
+    printf("%s\n", mask == 0 ? "none" : "");
+}
+
 static void print_bytes(const uint8_t *bytes, size_t count)
 {
     for (size_t i = 0; i < count; i++) {
         printf(" %u", bytes[i]);
+    }
+}
+
+/* A run table: a line for the letters, then one for each run. */
+static void print_table(size_t n, size_t g, const uint16_t *runs)
+{
+    printf("%.*s\n", (int)n, letters);
+    for (size_t j = 0; j < (size_t)1 << (n - g); j++) {
+        for (size_t f = 0; f < n; f++) {
+            putchar(runs[j] >> f & 1 ? '-' : '+');
+        }
+        putchar('\n');
     }
 }
 
@@ -129,6 +216,28 @@ static void print_renaming(const uint8_t *witness, size_t n)
     printf("\n");
 }
 
+/* ---- one plan */
+
+static int show(size_t n, size_t g, const char *text)
+{
+    struct plan plan = parse_plan(n, g, text);
+    uint16_t words[PLAN_FACTORS], runs[PLAN_RUNS];
+    struct plan_signs found = plan_words_of_columns(n, g, plan.bytes, plan.count, words, PLAN_FACTORS);
+    if (found.number != PLAN_ACCEPTED) {
+        return refuse(found.number);
+    }
+    plan_runs_of_columns(n, g, plan.bytes, plan.count, runs, PLAN_RUNS);
+    printf("columns");
+    print_bytes(plan.bytes, n);
+    printf("\n");
+    print_switched((uint16_t)(plan.bytes[n] | plan.bytes[n + 1] << 8));
+    printf("words");
+    print_words(words, found.signs, g);
+    printf("\n");
+    print_table(n, g, runs);
+    return DONE;
+}
+
 /* ---- two plans */
 
 /* What a comparison answered, with its witness. */
@@ -139,9 +248,7 @@ static int print_compared(uint32_t answer, const uint8_t *witness, size_t n)
     case PLAN_SAME:
         printf("same\n");
         print_renaming(witness, n);
-        printf("switched ");
-        print_letters(value);
-        printf("%s\n", value == 0 ? "none" : "");
+        print_switched(value);
         return DONE;
     case PLAN_DIFFERENT:
         printf(value == 0 ? "different, with one pattern\n" : "different: the words of %u letters are not as many\n", value);
@@ -153,7 +260,7 @@ static int print_compared(uint32_t answer, const uint8_t *witness, size_t n)
 
 static int compare(size_t n, size_t g, const char *one, const char *other)
 {
-    struct columns first = parse_columns(one), second = parse_columns(other);
+    struct plan first = parse_plan(n, g, one), second = parse_plan(n, g, other);
     uint8_t witness[PLAN_FACTORS];
     uint32_t answer = plan_compare_columns(n, g, first.bytes, first.count, second.bytes, second.count, witness, PLAN_FACTORS);
     return print_compared(answer, witness, n);
@@ -169,8 +276,8 @@ static int compare_tables(size_t n, size_t g, const char *one, const char *other
 
 /* ---- catalogues */
 
-/* A catalogue: its entries one after another, N columns each. */
-static uint8_t entries[ROOM * PLAN_FACTORS];
+/* A catalogue: the bytes of its entries, one after another. */
+static uint8_t entries[ROOM * PLAN_BYTES(PLAN_FACTORS)];
 
 static struct plan_entries catalogue(size_t n, size_t g, size_t r)
 {
@@ -178,20 +285,17 @@ static struct plan_entries catalogue(size_t n, size_t g, size_t r)
 }
 
 /* An entry's line: place, resolution, columns, words and the pattern from length 3 on. */
-static void print_entry(size_t n, size_t g, size_t place, const uint8_t *columns)
+static void print_entry(size_t n, size_t g, size_t place, const uint8_t *plan)
 {
     uint8_t resolution;
     uint16_t words[PLAN_FACTORS], pattern[PLAN_FACTORS];
-    plan_resolution_of_columns(n, g, columns, n, &resolution, 1);
-    plan_words_of_columns(n, g, columns, n, words, PLAN_FACTORS);
-    plan_pattern_of_columns(n, g, columns, n, pattern, PLAN_FACTORS);
+    plan_resolution_of_columns(n, g, plan, PLAN_BYTES(n), &resolution, 1);
+    struct plan_signs found = plan_words_of_columns(n, g, plan, PLAN_BYTES(n), words, PLAN_FACTORS);
+    plan_pattern_of_columns(n, g, plan, PLAN_BYTES(n), pattern, PLAN_FACTORS);
     printf("%zu res %u columns", place, resolution);
-    print_bytes(columns, n);
+    print_bytes(plan, n);
     printf(" words");
-    for (size_t i = 0; i < g; i++) {
-        putchar(' ');
-        print_letters(words[i]);
-    }
+    print_words(words, found.signs, g);
     printf(" pattern");
     for (size_t length = 3; length <= n; length++) {
         printf(" %u", pattern[length - 1]);
@@ -202,7 +306,7 @@ static void print_entry(size_t n, size_t g, size_t place, const uint8_t *columns
 static void print_entries(size_t n, size_t g, size_t count)
 {
     for (size_t i = 0; i < count; i++) {
-        print_entry(n, g, i + 1, entries + i * n);
+        print_entry(n, g, i + 1, entries + i * PLAN_BYTES(n));
     }
 }
 
@@ -224,14 +328,8 @@ static int print_runs(size_t n, size_t g, size_t r, size_t place)
         return REFUSED;
     }
     uint16_t runs[PLAN_RUNS];
-    plan_runs_of_columns(n, g, entries + (place - 1) * n, n, runs, PLAN_RUNS);
-    printf("%.*s\n", (int)n, letters);
-    for (size_t j = 0; j < (size_t)1 << (n - g); j++) {
-        for (size_t f = 0; f < n; f++) {
-            putchar(runs[j] >> f & 1 ? '-' : '+');
-        }
-        putchar('\n');
-    }
+    plan_runs_of_columns(n, g, entries + (place - 1) * PLAN_BYTES(n), PLAN_BYTES(n), runs, PLAN_RUNS);
+    print_table(n, g, runs);
     return DONE;
 }
 
@@ -246,7 +344,7 @@ static int write_book(size_t n, size_t g, size_t r, const char *path)
     if (found.number != PLAN_ACCEPTED) {
         return refuse(found.number);
     }
-    struct plan_bytes written = plan_write_book(n, g, r, entries, found.count * n, book, sizeof book);
+    struct plan_bytes written = plan_write_book(n, g, r, entries, found.count * PLAN_BYTES(n), book, sizeof book);
     if (written.number != PLAN_ACCEPTED) {
         return refuse(written.number);
     }
@@ -280,14 +378,14 @@ static int read_book(const char *path)
 
 static int print_smallest(size_t n, size_t g, size_t r, const char *text)
 {
-    struct columns given = parse_columns(text);
+    struct plan given = parse_plan(n, g, text);
     struct plan_entries found = catalogue(n, g, r);
     if (found.number != PLAN_ACCEPTED) {
         return refuse(found.number);
     }
-    uint8_t smallest[PLAN_FACTORS], witness[PLAN_FACTORS];
-    struct plan_form form = plan_smallest_of_columns(n, g, given.bytes, given.count, entries, found.count * n, smallest, PLAN_FACTORS,
-                                                     witness, PLAN_FACTORS);
+    uint8_t smallest[PLAN_BYTES(PLAN_FACTORS)], witness[PLAN_FACTORS];
+    struct plan_form form = plan_smallest_of_columns(n, g, given.bytes, given.count, entries, found.count * PLAN_BYTES(n), smallest,
+                                                     sizeof smallest, witness, PLAN_FACTORS);
     if (form.number != PLAN_ACCEPTED) {
         return refuse(form.number);
     }
@@ -295,6 +393,7 @@ static int print_smallest(size_t n, size_t g, size_t r, const char *text)
     print_bytes(smallest, n);
     printf("\n");
     print_renaming(witness, n);
+    print_switched(form.mask);
     printf("place %zu of %zu\n", form.place, found.count);
     return DONE;
 }
@@ -309,6 +408,9 @@ static int is(const char *name, int count, int argc, char **argv)
 
 int main(int argc, char **argv)
 {
+    if (is("show", 3, argc, argv)) {
+        return show(parse_number(argv[2]), parse_number(argv[3]), argv[4]);
+    }
     if (is("compare", 4, argc, argv)) {
         return compare(parse_number(argv[2]), parse_number(argv[3]), argv[4], argv[5]);
     }

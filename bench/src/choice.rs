@@ -17,8 +17,8 @@ const BOTH: [Choose; 2] = [plan_less_aberration, plain::less_aberration];
 /// The pairs of a family as lists of generators, drawn at random.
 pub fn word_pairs(family: &Family) -> Vec<(Vec<u16>, Vec<u16>)> {
     let mut random = Random::new(0xc401);
-    let mut words = |columns: &[u8]| {
-        let columns = columns.iter().map(|&column| u32::from(column)).collect();
+    let mut words = |plan: &[u8]| {
+        let columns = plan[..family.n].iter().map(|&column| u32::from(column)).collect();
         let list = generators(&mut random, &Sample { n: family.n, m: family.m, columns });
         list.iter().map(|&word| word as u16).collect()
     };

@@ -28,10 +28,10 @@ fn resolution(n: usize, m: usize) -> usize {
 fn catalogue(n: usize, m: usize) -> Vec<Columns> {
     let mut room = 1 << 10;
     loop {
-        let mut list = vec![0; room * n];
+        let mut list = vec![0; room * (n + 2)];
         let entries = plan_catalogue(n, n - m, resolution(n, m), &mut list);
         if entries.number == 0 {
-            return list.chunks(n).take(entries.count).map(|entry| entry.iter().map(|&column| column.into()).collect()).collect();
+            return list.chunks(n + 2).take(entries.count).map(|entry| entry[..n].iter().map(|&column| column.into()).collect()).collect();
         }
         assert_eq!(entries.number, NO_ROOM, "the size is accepted");
         room *= 4;

@@ -9,7 +9,7 @@ use plan_tests::random::Random;
 use plan_tests::samples::columns;
 use std::collections::HashMap;
 
-/// Pairs of one kind and size, as columns.
+/// Pairs of one kind and size: plans in bytes, with mask 0.
 pub struct Family {
     pub kind: String,
     pub n: usize,
@@ -31,8 +31,9 @@ pub enum Draw {
     Odd,
 }
 
+/// The bytes of a plan with mask 0.
 fn bytes(columns: &[u32]) -> Vec<u8> {
-    columns.iter().map(|&column| column as u8).collect()
+    columns.iter().map(|&column| column as u8).chain([0, 0]).collect()
 }
 
 fn draw(random: &mut Random, n: usize, m: usize, how: Draw) -> Vec<u32> {

@@ -8,16 +8,16 @@ use planner::plan_smallest_of_columns;
 use std::hint::black_box;
 use std::time::Instant;
 
-fn by_the_library(n: usize, g: usize, columns: &[u8]) {
-    let (mut smallest, mut witness) = ([0; 16], [0; 16]);
-    let form = plan_smallest_of_columns(n, g, columns, &[], &mut smallest, &mut witness);
+fn by_the_library(n: usize, g: usize, plan: &[u8]) {
+    let (mut smallest, mut witness) = ([0; 18], [0; 16]);
+    let form = plan_smallest_of_columns(n, g, plan, &[], &mut smallest, &mut witness);
     assert_eq!(form.number, 0, "the plan is accepted");
     black_box(smallest);
 }
 
-fn by_nauty(n: usize, g: usize, columns: &[u8]) {
+fn by_nauty(n: usize, g: usize, plan: &[u8]) {
     let mut label = [0; nauty::MOST_NUMBERS];
-    black_box(nauty::label(n, g, &admit(n, g, columns).expect("a plan"), &mut label));
+    black_box(nauty::label(n, g, &admit(n, g, plan).expect("a plan"), &mut label));
 }
 
 /// The mean and the worst of the second plans of the pairs, each at its fastest, by both, in turn.

@@ -46,20 +46,39 @@ static void print_verdict(const char *call, uint32_t answer)
     printf("%s: %s\n", call, answer == PLAN_YES ? "yes" : answer == PLAN_NO ? "no" : "refused");
 }
 
-static const uint8_t p_columns[] = {1, 2, 4, 7, 8, 11, 16, 32, 61};
-static const uint8_t q_columns[] = {1, 2, 4, 7, 8, 16, 25, 32, 42};
-static const uint8_t p_backwards[] = {61, 32, 16, 11, 8, 7, 4, 2, 1};
-static const uint8_t one_three[] = {1, 2, 3, 4};
-static const uint8_t one_four[] = {1, 2, 4, 7};
+/* Plans in bytes: their columns and the two bytes of a mask. */
+static const uint8_t p[] = {1, 2, 4, 7, 8, 11, 16, 32, 61, 0, 0};
+static const uint8_t q[] = {1, 2, 4, 7, 8, 16, 25, 32, 42, 0, 0};
+static const uint8_t p_backwards[] = {61, 32, 16, 11, 8, 7, 4, 2, 1, 0, 0};
+static const uint8_t p_minus[] = {1, 2, 4, 7, 8, 11, 16, 32, 61, 0x28, 0x01};
+static const uint8_t p_barred[] = {1, 2, 4, 7, 8, 11, 16, 32, 61, 0x01, 0x00};
+static const uint8_t one_three[] = {1, 2, 3, 4, 0, 0};
+static const uint8_t one_four[] = {1, 2, 4, 7, 0, 0};
+
+/* The two plans' runs. */
+static uint16_t first_runs[64], second_runs[64];
 
 static void print_columns(void)
 {
-    print_answer("P and Q", plan_compare_columns(9, 3, p_columns, 9, q_columns, 9, witness, PLACES));
-    print_answer("P and P backwards", plan_compare_columns(9, 3, p_columns, 9, p_backwards, 9, witness, PLACES));
-    print_answer("a word of 3 and a word of 4", plan_compare_columns(4, 1, one_three, 4, one_four, 4, witness, PLACES));
-    print_answer("P and Q, witness of 8", plan_compare_columns(9, 3, p_columns, 9, q_columns, 9, witness, 8));
-    print_answer("P and eight columns", plan_compare_columns(9, 3, p_columns, 9, q_columns, 8, witness, PLACES));
-    print_answer("N 17", plan_compare_columns(17, 3, p_columns, 9, q_columns, 9, witness, PLACES));
+    print_answer("P and Q", plan_compare_columns(9, 3, p, 11, q, 11, witness, PLACES));
+    print_answer("P and P backwards", plan_compare_columns(9, 3, p, 11, p_backwards, 11, witness, PLACES));
+    print_answer("a word of 3 and a word of 4", plan_compare_columns(4, 1, one_three, 6, one_four, 6, witness, PLACES));
+    print_answer("P and Q, witness of 8", plan_compare_columns(9, 3, p, 11, q, 11, witness, 8));
+    print_answer("P and nine columns without a mask", plan_compare_columns(9, 3, p, 11, q, 9, witness, PLACES));
+    print_answer("P with A switched, and Q", plan_compare_columns(9, 3, p_barred, 11, q, 11, witness, PLACES));
+    print_answer("P with minus signs, and Q", plan_compare_columns(9, 3, p_minus, 11, q, 11, witness, PLACES));
+    print_answer("N 17", plan_compare_columns(17, 3, p, 11, q, 11, witness, PLACES));
+}
+
+/* P with D, F and J switched, which makes ABCD, ABEF and ACEGHJ minus, is the same as P, and the witness switches what it must. */
+static void print_switched(void)
+{
+    uint32_t answer = plan_compare_columns(9, 3, p_minus, 11, p, 11, witness, PLACES);
+    printf("P with minus signs, and P: %s\n", PLAN_KIND(answer) == PLAN_SAME && PLAN_VALUE(answer) != 0 ? "same, with switches" : "not so");
+    plan_runs_of_columns(9, 3, p_minus, 11, first_runs, COUNT(first_runs));
+    plan_runs_of_columns(9, 3, p, 11, second_runs, COUNT(second_runs));
+    print_verdict("its witness", plan_check_witness(9, 3, first_runs, 64, second_runs, 64, witness, 9, (uint16_t)PLAN_VALUE(answer)));
+    clear();
 }
 
 /* The runs of columns 1 2 3, and the same with A switched, in another order. */
@@ -87,6 +106,7 @@ int main(void)
 {
     clear();
     print_columns();
+    print_switched();
     print_runs();
     return 0;
 }

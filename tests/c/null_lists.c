@@ -6,9 +6,9 @@
 #include <stdio.h>
 #include <string.h>
 
-/* Any columns, words and runs; their lists are taken with 0 elements where NULL is tried. */
-static const uint8_t columns[] = {1, 2, 3};
-static const uint8_t basic_columns[] = {1, 2, 4};
+/* Any plans in bytes, words and runs; their lists are taken with 0 elements where NULL is tried. */
+static const uint8_t columns[] = {1, 2, 3, 0, 0};
+static const uint8_t basic_columns[] = {1, 2, 4, 0, 0};
 static const uint16_t words[] = {7};
 static const uint16_t runs[] = {0, 5, 6, 3};
 static const uint8_t names[] = {0, 1, 2};
@@ -33,7 +33,7 @@ static void clear(void)
     }
 }
 
-/* What a call came to: its answer, its mask, its place or count, and the N, G and R of a book, 0 where it has none; and the lent lists after
+/* What a call came to: its answer, its mask or signs, its place or count, and the N, G and R of a book, 0 where it has none; and the lent lists after
  * it. */
 struct outcome {
     uint32_t number;
@@ -61,6 +61,11 @@ static struct outcome outcome(uint32_t number, uint16_t mask, size_t count)
 static struct outcome of_number(uint32_t answer)
 {
     return outcome(answer, 0, 0);
+}
+
+static struct outcome of_signs(struct plan_signs answer)
+{
+    return outcome(answer.number, answer.signs, 0);
 }
 
 static struct outcome of_form(struct plan_form answer)
@@ -135,10 +140,16 @@ static void print(const char *call, const struct outcome *with_null, const struc
     } while (0)
 
 /* A call with one list read and one lent: no element in the first, then no place in the second, then neither. */
-#define ONE_PLAN(call, list, count, lent)                                                                                                  \
-    TRY(#call ", nothing to read", of_number, call(3, 1, NULL, 0, lent, PLAN_RUNS), call(3, 1, list, 0, lent, PLAN_RUNS));                 \
-    TRY(#call ", nothing lent", of_number, call(3, 1, list, count, NULL, 0), call(3, 1, list, count, lent, 0));                            \
-    TRY(#call ", neither", of_number, call(3, 1, NULL, 0, NULL, 0), call(3, 1, list, 0, lent, 0))
+#define ONE_PLAN(call, of, list, count, lent)                                                                                              \
+    TRY(#call ", nothing to read", of, call(3, 1, NULL, 0, lent, PLAN_RUNS), call(3, 1, list, 0, lent, PLAN_RUNS));                        \
+    TRY(#call ", nothing lent", of, call(3, 1, list, count, NULL, 0), call(3, 1, list, count, lent, 0));                                   \
+    TRY(#call ", neither", of, call(3, 1, NULL, 0, NULL, 0), call(3, 1, list, 0, lent, 0))
+
+/* The same of words, with their signs. */
+#define ONE_LIST_OF_WORDS(call, lent)                                                                                                      \
+    TRY(#call ", nothing to read", of_number, call(3, 1, NULL, 0, 1, lent, PLAN_RUNS), call(3, 1, words, 0, 1, lent, PLAN_RUNS));          \
+    TRY(#call ", nothing lent", of_number, call(3, 1, words, 1, 1, NULL, 0), call(3, 1, words, 1, 1, lent, 0));                            \
+    TRY(#call ", neither", of_number, call(3, 1, NULL, 0, 1, NULL, 0), call(3, 1, words, 0, 1, lent, 0))
 
 /* A call with two lists read: no element in the first, the second, or either. */
 #define TWO_READ(call, n, g, list, count)                                                                                                  \
@@ -155,34 +166,34 @@ static void print(const char *call, const struct outcome *with_null, const struc
 
 static void print_one_plan(void)
 {
-    ONE_PLAN(plan_columns_of_words, words, 1, bytes);
-    ONE_PLAN(plan_columns_of_runs, runs, 4, bytes);
-    ONE_PLAN(plan_words_of_columns, columns, 3, shorts);
-    ONE_PLAN(plan_runs_of_columns, columns, 3, shorts);
-    ONE_PLAN(plan_runs_of_words, words, 1, shorts);
-    ONE_PLAN(plan_pattern_of_words, words, 1, shorts);
-    ONE_PLAN(plan_pattern_of_columns, columns, 3, shorts);
-    ONE_PLAN(plan_pattern_of_runs, runs, 4, shorts);
-    ONE_PLAN(plan_resolution_of_words, words, 1, bytes);
-    ONE_PLAN(plan_resolution_of_columns, columns, 3, bytes);
-    ONE_PLAN(plan_resolution_of_runs, runs, 4, bytes);
-    ONE_PLAN(plan_distances_of_words, words, 1, shorts);
-    ONE_PLAN(plan_distances_of_columns, columns, 3, shorts);
-    ONE_PLAN(plan_distances_of_runs, runs, 4, shorts);
+    ONE_LIST_OF_WORDS(plan_columns_of_words, bytes);
+    ONE_PLAN(plan_columns_of_runs, of_number, runs, 4, bytes);
+    ONE_PLAN(plan_words_of_columns, of_signs, columns, 5, shorts);
+    ONE_PLAN(plan_runs_of_columns, of_number, columns, 5, shorts);
+    ONE_LIST_OF_WORDS(plan_runs_of_words, shorts);
+    ONE_LIST_OF_WORDS(plan_pattern_of_words, shorts);
+    ONE_PLAN(plan_pattern_of_columns, of_number, columns, 5, shorts);
+    ONE_PLAN(plan_pattern_of_runs, of_number, runs, 4, shorts);
+    ONE_LIST_OF_WORDS(plan_resolution_of_words, bytes);
+    ONE_PLAN(plan_resolution_of_columns, of_number, columns, 5, bytes);
+    ONE_PLAN(plan_resolution_of_runs, of_number, runs, 4, bytes);
+    ONE_LIST_OF_WORDS(plan_distances_of_words, shorts);
+    ONE_PLAN(plan_distances_of_columns, of_number, columns, 5, shorts);
+    ONE_PLAN(plan_distances_of_runs, of_number, runs, 4, shorts);
 }
 
 /* Of a full factorial, which has no words: here NULL is accepted. */
-#define NO_WORDS(name, call, lent, places) TRY(name, of_number, call(3, 0, NULL, 0, lent, places), call(3, 0, words, 0, lent, places))
+#define NO_WORDS(name, call, lent, places) TRY(name, of_number, call(3, 0, NULL, 0, 0, lent, places), call(3, 0, words, 0, 0, lent, places))
 
 static void print_accepted(void)
 {
-    NO_WORDS("columns of no words", plan_columns_of_words, bytes, 3);
+    NO_WORDS("columns of no words", plan_columns_of_words, bytes, 5);
     NO_WORDS("runs of no words", plan_runs_of_words, shorts, 8);
     NO_WORDS("pattern of no words", plan_pattern_of_words, shorts, 3);
     NO_WORDS("resolution of no words", plan_resolution_of_words, bytes, 1);
     NO_WORDS("distances of no words", plan_distances_of_words, shorts, 4);
-    TRY("no words of columns", of_number, plan_words_of_columns(3, 0, basic_columns, 3, NULL, 0),
-        plan_words_of_columns(3, 0, basic_columns, 3, shorts, 0));
+    TRY("no words of columns", of_signs, plan_words_of_columns(3, 0, basic_columns, 5, NULL, 0),
+        plan_words_of_columns(3, 0, basic_columns, 5, shorts, 0));
     TWO_READ(plan_aberration_refusal, 3, 0, words, 0);
     TWO_READ(plan_less_aberration, 3, 0, words, 0);
     TRY("a catalogue without entries", of_entries, plan_catalogue(4, 2, 3, NULL, 0), plan_catalogue(4, 2, 3, bytes, 0));
@@ -192,7 +203,7 @@ static void print_two_plans(void)
 {
     TWO_READ(plan_aberration_refusal, 3, 1, words, 1);
     TWO_READ(plan_less_aberration, 3, 1, words, 1);
-    COMPARISON(plan_compare_columns, columns, 3);
+    COMPARISON(plan_compare_columns, columns, 5);
     COMPARISON(plan_compare_runs, runs, 4);
     TRY("plan_check_witness, no first", of_number, plan_check_witness(3, 1, NULL, 0, runs, 4, names, 3, 0),
         plan_check_witness(3, 1, runs, 0, runs, 4, names, 3, 0));
@@ -204,28 +215,28 @@ static void print_two_plans(void)
         plan_check_witness(3, 1, runs, 0, runs, 0, names, 0, 0));
 }
 
-/* The smallest form of one plan, by columns or by runs: no plan, no list to look in, which is accepted, no form, no witness, or none. */
+/* The smallest form of one plan, in bytes or by runs: no plan, no list to look in, which is accepted, no form, no witness, or none. */
 #define SMALLEST(call, of, plan, count)                                                                                                    \
-    TRY(#call ", no plan", of, call(3, 1, NULL, 0, columns, 3, bytes, 3, more_bytes, 3),                                                   \
-        call(3, 1, plan, 0, columns, 3, bytes, 3, more_bytes, 3));                                                                         \
-    TRY(#call ", no list", of, call(3, 1, plan, count, NULL, 0, bytes, 3, more_bytes, 3),                                                  \
-        call(3, 1, plan, count, columns, 0, bytes, 3, more_bytes, 3));                                                                     \
-    TRY(#call ", no form", of, call(3, 1, plan, count, columns, 3, NULL, 0, more_bytes, 3),                                                \
-        call(3, 1, plan, count, columns, 3, bytes, 0, more_bytes, 3));                                                                     \
-    TRY(#call ", no witness", of, call(3, 1, plan, count, columns, 3, bytes, 3, NULL, 0),                                                  \
-        call(3, 1, plan, count, columns, 3, bytes, 3, more_bytes, 0));                                                                     \
+    TRY(#call ", no plan", of, call(3, 1, NULL, 0, columns, 5, bytes, 5, more_bytes, 3),                                                   \
+        call(3, 1, plan, 0, columns, 5, bytes, 5, more_bytes, 3));                                                                         \
+    TRY(#call ", no list", of, call(3, 1, plan, count, NULL, 0, bytes, 5, more_bytes, 3),                                                  \
+        call(3, 1, plan, count, columns, 0, bytes, 5, more_bytes, 3));                                                                     \
+    TRY(#call ", no form", of, call(3, 1, plan, count, columns, 5, NULL, 0, more_bytes, 3),                                                \
+        call(3, 1, plan, count, columns, 5, bytes, 0, more_bytes, 3));                                                                     \
+    TRY(#call ", no witness", of, call(3, 1, plan, count, columns, 5, bytes, 5, NULL, 0),                                                  \
+        call(3, 1, plan, count, columns, 5, bytes, 5, more_bytes, 0));                                                                     \
     TRY(#call ", none", of, call(3, 1, NULL, 0, NULL, 0, NULL, 0, NULL, 0), call(3, 1, plan, 0, columns, 0, bytes, 0, more_bytes, 0))
 
 static void print_smallest(void)
 {
-    SMALLEST(plan_smallest_of_columns, of_form, columns, 3);
+    SMALLEST(plan_smallest_of_columns, of_form, columns, 5);
     SMALLEST(plan_smallest_of_runs, of_form, runs, 4);
-    TRY("plan_smallest_of_plans, no plans", of_number, plan_smallest_of_plans(3, 1, NULL, 0, bytes, 3, more_bytes, 3),
-        plan_smallest_of_plans(3, 1, columns, 0, bytes, 3, more_bytes, 3));
-    TRY("plan_smallest_of_plans, no forms", of_number, plan_smallest_of_plans(3, 1, columns, 3, NULL, 0, more_bytes, 3),
-        plan_smallest_of_plans(3, 1, columns, 3, bytes, 0, more_bytes, 3));
-    TRY("plan_smallest_of_plans, no witnesses", of_number, plan_smallest_of_plans(3, 1, columns, 3, bytes, 3, NULL, 0),
-        plan_smallest_of_plans(3, 1, columns, 3, bytes, 3, more_bytes, 0));
+    TRY("plan_smallest_of_plans, no plans", of_number, plan_smallest_of_plans(3, 1, NULL, 0, bytes, 5, more_bytes, 5),
+        plan_smallest_of_plans(3, 1, columns, 0, bytes, 5, more_bytes, 5));
+    TRY("plan_smallest_of_plans, no forms", of_number, plan_smallest_of_plans(3, 1, columns, 5, NULL, 0, more_bytes, 5),
+        plan_smallest_of_plans(3, 1, columns, 5, bytes, 0, more_bytes, 5));
+    TRY("plan_smallest_of_plans, no witnesses", of_number, plan_smallest_of_plans(3, 1, columns, 5, bytes, 5, NULL, 0),
+        plan_smallest_of_plans(3, 1, columns, 5, bytes, 5, more_bytes, 0));
     TRY("plan_smallest_of_plans, none", of_number, plan_smallest_of_plans(3, 1, NULL, 0, NULL, 0, NULL, 0),
         plan_smallest_of_plans(3, 1, columns, 0, bytes, 0, more_bytes, 0));
 }
@@ -235,8 +246,8 @@ static void print_catalogue_and_books(void)
     TRY("plan_catalogue, no room", of_entries, plan_catalogue(3, 1, 3, NULL, 0), plan_catalogue(3, 1, 3, bytes, 0));
     TRY("plan_write_book, no plans", of_book, plan_write_book(3, 1, 3, NULL, 0, bytes, PLAN_RUNS),
         plan_write_book(3, 1, 3, columns, 0, bytes, PLAN_RUNS));
-    TRY("plan_write_book, no places", of_book, plan_write_book(3, 1, 3, columns, 3, NULL, 0),
-        plan_write_book(3, 1, 3, columns, 3, bytes, 0));
+    TRY("plan_write_book, no places", of_book, plan_write_book(3, 1, 3, columns, 5, NULL, 0),
+        plan_write_book(3, 1, 3, columns, 5, bytes, 0));
     TRY("plan_write_book, neither", of_book, plan_write_book(3, 1, 3, NULL, 0, NULL, 0), plan_write_book(3, 1, 3, columns, 0, bytes, 0));
     TRY("plan_read_book, no book", of_reading, plan_read_book(NULL, 0, bytes, PLAN_RUNS), plan_read_book(book, 0, bytes, PLAN_RUNS));
     TRY("plan_read_book, no places", of_reading, plan_read_book(book, sizeof book, NULL, 0), plan_read_book(book, sizeof book, bytes, 0));

@@ -40,8 +40,8 @@ static struct plan_book print_read(const char *name, const uint8_t *book, size_t
 
 static void print_examples(void)
 {
-    print_read("a list of one entry", two_entries, TWO_ENTRIES, 4);
-    print_read("a place too few", two_entries, TWO_ENTRIES, 7);
+    print_read("a list of one entry", two_entries, TWO_ENTRIES, PLAN_BYTES(4));
+    print_read("a place too few", two_entries, TWO_ENTRIES, 2 * PLAN_BYTES(4) - 1);
     print_read("a byte too many", two_entries, TWO_ENTRIES + 1, PLACES);
     print_read("a byte too few", two_entries, TWO_ENTRIES - 1, PLACES);
     print_read("N 17, cut off", large_size, 5, PLACES);
@@ -57,8 +57,8 @@ static void print_again(void)
 {
     uint8_t book[sizeof two_entries];
     struct plan_book found = print_read("two entries", two_entries, TWO_ENTRIES, PLACES);
-    struct plan_bytes written =
-        plan_write_book(found.factors, found.generators, found.resolution, columns, found.count * found.factors, book, sizeof book);
+    size_t bytes = found.count * PLAN_BYTES(found.factors);
+    struct plan_bytes written = plan_write_book(found.factors, found.generators, found.resolution, columns, bytes, book, sizeof book);
     int same = written.count == TWO_ENTRIES && memcmp(book, two_entries, TWO_ENTRIES) == 0;
     printf("written again: %u, %s\n", written.number, same ? "the same bytes" : "other bytes");
 }

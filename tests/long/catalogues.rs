@@ -14,7 +14,7 @@ fn confirm(n: usize, m: usize, r: usize, count: usize) {
     for entry in entries.iter().step_by(1 + count / 200) {
         let mut other = in_other_basics(&mut random, m, entry);
         random.shuffle(&mut other);
-        compare_smallest(n, n - m, &other, entry, (n, n));
+        compare_smallest(n, n - m, &other, entry, (n + 2, n));
     }
 }
 

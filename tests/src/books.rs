@@ -2,11 +2,12 @@
 
 use crate::calls::{bytes, guarded, MARGIN};
 use crate::check::book::{book, refusal};
+use crate::check::plan::{plan_bytes, stride};
 use crate::guarded::plan_write_book;
 
-/// The plans' columns, one plan after another.
+/// Plans by their columns, with mask 0, in bytes, one after another.
 pub fn joined(plans: &[Vec<u32>]) -> Vec<u8> {
-    bytes(&plans.concat())
+    plans.iter().flat_map(|columns| bytes(&plan_bytes(columns, 0))).collect()
 }
 
 /// The answer of a call with this many lent bytes, and the whole guarded list before and after it.
@@ -53,7 +54,7 @@ pub fn compare_any(n: usize, g: usize, r: usize, plans: &[u8], places: usize) ->
         compare_refused(n, g, r, plans, places, number);
         return number;
     }
-    let lists: Vec<Vec<u32>> = plans.chunks(n).map(|plan| plan.iter().map(|&column| column.into()).collect()).collect();
+    let lists: Vec<Vec<u32>> = plans.chunks(stride(n)).map(|plan| plan[..n].iter().map(|&column| column.into()).collect()).collect();
     compare_written(n, g, r, plans, places, &book(n, g, r, &lists));
     0
 }

@@ -1,23 +1,16 @@
 //! One exported call on a list, with a result list that is guarded on both sides.
 
-use crate::check::plan::{Form, Question};
+use crate::check::plan::{Form, Given, Question};
 use crate::guarded::*;
-
-/// A list in one of the three forms, with its sizes, as a call takes it.
-#[derive(Clone, Debug, PartialEq, Eq)]
-pub struct Given {
-    pub n: usize,
-    pub g: usize,
-    pub form: Form,
-    pub list: Vec<u32>,
-}
+use planner::Signs;
 
 /// Places before and after the lent list that no call may touch.
 pub(crate) const MARGIN: usize = 4;
 
-/// What a call answered, and the whole guarded list before and after it.
+/// What a call answered, with signs if it gives words, else 0, and the whole guarded list before and after it.
 pub struct Outcome {
     pub answer: u8,
+    pub signs: u32,
     pub before: Vec<u32>,
     pub after: Vec<u32>,
 }
@@ -60,34 +53,39 @@ fn lend_bytes(places: usize, call: impl FnOnce(&mut [u8]) -> u8) -> Outcome {
     let before = guarded(places);
     let mut lent = bytes(&before);
     let answer = call(&mut lent[MARGIN..MARGIN + places]);
-    Outcome { answer, before, after: lent.iter().map(|&x| x.into()).collect() }
+    Outcome { answer, signs: 0, before, after: lent.iter().map(|&x| x.into()).collect() }
+}
+
+/// A call that gives words answers their signs too.
+fn lend_words(places: usize, call: impl FnOnce(&mut [u16]) -> Signs) -> Outcome {
+    let before: Vec<u32> = guarded(places).iter().map(|x| x * 257).collect();
+    let mut lent = shorts(&before);
+    let Signs { number, signs } = call(&mut lent[MARGIN..MARGIN + places]);
+    Outcome { answer: number, signs: signs.into(), before, after: lent.iter().map(|&x| x.into()).collect() }
 }
 
 fn lend_shorts(places: usize, call: impl FnOnce(&mut [u16]) -> u8) -> Outcome {
-    let before: Vec<u32> = guarded(places).iter().map(|x| x * 257).collect();
-    let mut lent = shorts(&before);
-    let answer = call(&mut lent[MARGIN..MARGIN + places]);
-    Outcome { answer, before, after: lent.iter().map(|&x| x.into()).collect() }
+    lend_words(places, |lent| Signs { number: call(lent), signs: 0 })
 }
 
-fn call_on_words(n: usize, g: usize, words: &[u16], question: Question, places: usize) -> Outcome {
+fn call_on_words(n: usize, g: usize, words: &[u16], signs: u16, question: Question, places: usize) -> Outcome {
     match question {
-        Question::Columns => lend_bytes(places, |lent| plan_columns_of_words(n, g, words, lent)),
-        Question::Runs => lend_shorts(places, |lent| plan_runs_of_words(n, g, words, lent)),
-        Question::Pattern => lend_shorts(places, |lent| plan_pattern_of_words(n, g, words, lent)),
-        Question::Resolution => lend_bytes(places, |lent| plan_resolution_of_words(n, g, words, lent)),
-        Question::Distances => lend_shorts(places, |lent| plan_distances_of_words(n, g, words, lent)),
+        Question::Columns => lend_bytes(places, |lent| plan_columns_of_words(n, g, words, signs, lent)),
+        Question::Runs => lend_shorts(places, |lent| plan_runs_of_words(n, g, words, signs, lent)),
+        Question::Pattern => lend_shorts(places, |lent| plan_pattern_of_words(n, g, words, signs, lent)),
+        Question::Resolution => lend_bytes(places, |lent| plan_resolution_of_words(n, g, words, signs, lent)),
+        Question::Distances => lend_shorts(places, |lent| plan_distances_of_words(n, g, words, signs, lent)),
         Question::Words => panic!("no call gives words of words"),
     }
 }
 
-fn call_on_columns(n: usize, g: usize, columns: &[u8], question: Question, places: usize) -> Outcome {
+fn call_on_columns(n: usize, g: usize, plan: &[u8], question: Question, places: usize) -> Outcome {
     match question {
-        Question::Words => lend_shorts(places, |lent| plan_words_of_columns(n, g, columns, lent)),
-        Question::Runs => lend_shorts(places, |lent| plan_runs_of_columns(n, g, columns, lent)),
-        Question::Pattern => lend_shorts(places, |lent| plan_pattern_of_columns(n, g, columns, lent)),
-        Question::Resolution => lend_bytes(places, |lent| plan_resolution_of_columns(n, g, columns, lent)),
-        Question::Distances => lend_shorts(places, |lent| plan_distances_of_columns(n, g, columns, lent)),
+        Question::Words => lend_words(places, |lent| plan_words_of_columns(n, g, plan, lent)),
+        Question::Runs => lend_shorts(places, |lent| plan_runs_of_columns(n, g, plan, lent)),
+        Question::Pattern => lend_shorts(places, |lent| plan_pattern_of_columns(n, g, plan, lent)),
+        Question::Resolution => lend_bytes(places, |lent| plan_resolution_of_columns(n, g, plan, lent)),
+        Question::Distances => lend_shorts(places, |lent| plan_distances_of_columns(n, g, plan, lent)),
         Question::Columns => panic!("no call gives columns of columns"),
     }
 }
@@ -104,11 +102,11 @@ fn call_on_runs(n: usize, g: usize, runs: &[u16], question: Question, places: us
 
 /// The call that answers the question about the given list, with a lent list of this many places.
 pub fn call(given: &Given, question: Question, places: usize) -> Outcome {
-    let Given { n, g, form, list } = given;
+    let &Given { n, g, form, ref list, signs } = given;
     match form {
-        Form::Words => call_on_words(*n, *g, &shorts(list), question, places),
-        Form::Columns => call_on_columns(*n, *g, &bytes(list), question, places),
-        Form::Runs => call_on_runs(*n, *g, &shorts(list), question, places),
+        Form::Words => call_on_words(n, g, &shorts(list), shorts(&[signs])[0], question, places),
+        Form::Columns => call_on_columns(n, g, &bytes(list), question, places),
+        Form::Runs => call_on_runs(n, g, &shorts(list), question, places),
     }
 }
 

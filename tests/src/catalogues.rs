@@ -2,6 +2,7 @@
 
 use crate::calls::{bytes, guarded, MARGIN};
 use crate::check::counting::{linear_maps, sets_of_rank};
+use crate::check::plan::{plan_bytes, stride};
 use crate::check::refusals::of_sizes;
 use crate::check::smallest::{no_word_below, smallest, smallest_and_orders};
 use crate::guarded::{plan_catalogue, plan_pattern_of_columns};
@@ -37,7 +38,7 @@ pub fn with_resolution(forms: &[Vec<u32>], r: usize) -> Entries {
 /// it leaves in the list.
 fn answered(found: planner::Entries, n: usize, places: usize) -> u32 {
     let (number, count) = (u32::from(found.number), found.count);
-    let left = if number == NO_ROOM { places / n } else { 0 };
+    let left = if number == NO_ROOM { places / stride(n) } else { 0 };
     assert!(number == 0 || count == left, "refused by {number} with {count} entries in {places} places");
     if number == 0 {
         ENTRIES + u32::try_from(count).expect("fewer than 2^32 entries")
@@ -54,14 +55,15 @@ pub fn call_catalogue(n: usize, g: usize, r: usize, places: usize) -> (u32, Vec<
     (answer, before, lent.iter().map(|&column| column.into()).collect())
 }
 
-/// Compares one call, with a list of this many places, with the entries of its catalogue: the answer and every place of the list.
+/// Compares one call, with a list of this many places, with the entries of its catalogue: the answer and every place of the list. Each entry
+/// has mask 0.
 pub fn compare_catalogue(n: usize, g: usize, r: usize, entries: &Entries, places: usize) {
     let (answer, before, after) = call_catalogue(n, g, r, places);
-    let room = places / n;
+    let room = places / stride(n);
     let expected = if entries.len() > room { NO_ROOM } else { ENTRIES + entries.len() as u32 };
     let mut list = before;
     for (k, entry) in entries.iter().take(room).enumerate() {
-        list[MARGIN + k * n..MARGIN + (k + 1) * n].copy_from_slice(entry);
+        list[MARGIN + k * stride(n)..MARGIN + (k + 1) * stride(n)].copy_from_slice(&plan_bytes(entry, 0));
     }
     assert_eq!(answer, expected, "the answer for {n} {g} {r} with {places} places");
     assert_eq!(after, list, "the list for {n} {g} {r} with {places} places");
@@ -82,14 +84,18 @@ pub fn compare_refused(n: usize, g: usize, r: usize, places: usize) {
     assert_eq!(after, before, "a refused call touched its list: {n} {g} {r}");
 }
 
-/// The entries that one call gives: all of them, or the first ones where the list has room for no more than these. Fails if it touches
-/// anything else.
+/// The columns of the entries that one call gives: all of them, or the first ones where the list has room for no more than these. Fails if it
+/// touches anything else, or gives a mask other than 0.
 pub fn entries(n: usize, g: usize, r: usize, room: usize) -> (bool, Entries) {
-    let (answer, before, after) = call_catalogue(n, g, r, room * n);
+    let (answer, before, after) = call_catalogue(n, g, r, room * stride(n));
     let count = if answer == NO_ROOM { room } else { answer.checked_sub(ENTRIES).expect("accepted, or refused by 9") as usize };
-    let end = MARGIN + count * n;
+    let end = MARGIN + count * stride(n);
     assert!(count <= room && before[..MARGIN] == after[..MARGIN] && before[end..] == after[end..], "{n} {g} {r}: {answer:#x}");
-    (answer != NO_ROOM, after[MARGIN..end].chunks(n).map(|entry| entry.to_vec()).collect())
+    let columns = |entry: &[u32]| {
+        assert_eq!(entry[n..], [0, 0], "the mask of an entry of {n} {g} {r}: {entry:?}");
+        entry[..n].to_vec()
+    };
+    (answer != NO_ROOM, after[MARGIN..end].chunks(stride(n)).map(columns).collect())
 }
 
 /// The catalogue of a size as the library gives it, which has no more entries than this. Fails unless each is a smallest form by the
@@ -123,7 +129,7 @@ pub fn patterns_and_beginnings(m: usize, entries: &Entries) -> (usize, usize) {
     let mut whole = BTreeSet::new();
     for entry in entries {
         let (n, mut pattern) = (entry.len(), vec![0; entry.len()]);
-        assert_eq!(plan_pattern_of_columns(n, n - m, &bytes(entry), &mut pattern), 0, "{entry:?}");
+        assert_eq!(plan_pattern_of_columns(n, n - m, &bytes(&plan_bytes(entry, 0)), &mut pattern), 0, "{entry:?}");
         assert_eq!(pattern.iter().sum::<u16>(), (1 << (n - m)) - 1, "{entry:?}: {pattern:?}");
         whole.insert(pattern);
     }

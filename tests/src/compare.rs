@@ -1,8 +1,8 @@
 //! Exported calls held against the checking program.
 
-use crate::calls::{call, every_call, name, questions, Given};
+use crate::calls::{call, every_call, name, questions};
 use crate::check::measures::{first_difference, pattern, second_is_better};
-use crate::check::plan::{places, Form, Plan, Question};
+use crate::check::plan::{places, Form, Given, Plan, Question};
 use crate::check::refusals::{accepted, lowest, of_sizes};
 use crate::guarded::{plan_aberration_refusal, plan_less_aberration};
 use crate::random::Random;
@@ -87,16 +87,18 @@ fn lengths(given: &Given, question: Question, lending: Lending) -> Vec<usize> {
 /// Compares one call with what is expected of it, and returns its answer.
 fn compare_call(given: &Given, expected: &Result<Plan, u8>, question: Question, lent: usize) -> u8 {
     let outcome = call(given, question, lent);
-    let (number, list) = match expected {
-        Err(number) => (*number, outcome.before.clone()),
-        Ok(plan) if lent < places(plan.n, plan.g, question) => (8, outcome.before.clone()),
-        Ok(plan) => (0, outcome.filled(&plan.answer(question))),
+    let (number, signs, list) = match expected {
+        Err(number) => (*number, 0, outcome.before.clone()),
+        Ok(plan) if lent < places(plan.n, plan.g, question) => (8, 0, outcome.before.clone()),
+        Ok(plan) if question == Question::Words => (0, plan.signs(), outcome.filled(&plan.answer(question))),
+        Ok(plan) => (0, 0, outcome.filled(&plan.answer(question))),
     };
     assert!(
-        outcome.answer == number && outcome.after == list,
-        "{} lent {lent} places\n plan: {given:?}\n expected: {number} {list:?}\n found: {} {:?}",
+        (outcome.answer, outcome.signs) == (number, signs) && outcome.after == list,
+        "{} lent {lent} places\n plan: {given:?}\n expected: {number}, signs {signs} {list:?}\n found: {}, signs {} {:?}",
         name(given.form, question),
         outcome.answer,
+        outcome.signs,
         outcome.after,
     );
     number
@@ -104,7 +106,7 @@ fn compare_call(given: &Given, expected: &Result<Plan, u8>, question: Question, 
 
 /// Compares every call on the given list with the checking program.
 pub fn compare(given: &Given, lending: Lending, tally: &mut Tally) {
-    let expected = accepted(given.n, given.g, given.form, &given.list);
+    let expected = accepted(given);
     for &question in questions(given.form) {
         let lengths = lengths(given, question, lending);
         if lending == Lending::AnyOne {
@@ -132,7 +134,7 @@ pub struct Ranked {
 
 /// The comparison of two lists of words by the checking program.
 fn ranked(n: usize, g: usize, first: &[u32], second: &[u32]) -> Ranked {
-    let plans = (accepted(n, g, Form::Words, first), accepted(n, g, Form::Words, second));
+    let plans = (accepted(&Given::words(n, g, first, 0)), accepted(&Given::words(n, g, second, 0)));
     let (Ok(one), Ok(two)) = &plans else {
         let number = |plan: &Result<Plan, u8>| plan.as_ref().err().copied().unwrap_or(0);
         return Ranked { refusal: lowest(number(&plans.0), number(&plans.1)), better: 0, length: 0 };

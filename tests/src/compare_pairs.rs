@@ -1,12 +1,13 @@
 //! Comparisons of two plans held against the checking program.
 
-use crate::check::plan::{Form, Plan, Question};
+use crate::check::plan::{columns_and_mask, plan_bytes, Form, Plan};
 use crate::check::refusals::{accepted, lowest};
 use crate::check::renamings::is_witness;
-use crate::check::runs::runs_of_columns;
+use crate::check::runs::switched_runs;
 use crate::known::Known;
 use crate::pairs::{call_check, call_comparison, Answer, Pair, Verdict};
 use crate::random::Random;
+use crate::samples::any_mask;
 
 /// What a comparison must answer. Which witness it gives for plans that are the same is its own choice.
 #[derive(Clone, Copy, Debug, PartialEq, Eq)]
@@ -47,16 +48,25 @@ impl Counts {
 /// The runs of a list that is a plan.
 fn runs(pair: &Pair, list: &[u32]) -> Vec<u32> {
     match pair.form {
-        Form::Columns => runs_of_columns(pair.n - pair.g, list),
+        Form::Columns => {
+            let (columns, mask) = columns_and_mask(pair.n, list);
+            switched_runs(pair.n - pair.g, columns, mask)
+        }
         _ => list.to_vec(),
     }
 }
 
-/// Fails unless the comparison's witness turns the first plan's runs into the second's, and the check of a witness says so.
+/// Whether both plans are given by columns and have mask 0.
+fn unswitched(pair: &Pair) -> bool {
+    pair.form == Form::Columns && [&pair.first, &pair.second].iter().all(|list| columns_and_mask(pair.n, list).1 == 0)
+}
+
+/// Fails unless the comparison's witness turns the first plan's runs into the second's, and the check of a witness says so; and unless it
+/// switches nothing between plans of mask 0.
 fn confirm(pair: &Pair, names: &[u32], mask: u32) {
     let (first, second) = (runs(pair, &pair.first), runs(pair, &pair.second));
     assert!(is_witness(pair.n, &first, &second, names, mask), "no witness: {names:?} and {mask:#x} for {pair:?}");
-    assert!(pair.form != Form::Columns || mask == 0, "mask {mask:#x} between columns: {pair:?}");
+    assert!(!unswitched(pair) || mask == 0, "switches {mask:#x} between masks 0: {pair:?}");
     let tables = Pair { form: Form::Runs, first, second, ..*pair };
     assert_eq!(call_check(&tables, names, mask), Verdict::Yes, "check of {names:?} and {mask:#x} for {tables:?}");
 }
@@ -94,7 +104,10 @@ pub fn expected(first: &Known, second: &Known) -> Expected {
 pub fn compare_known(random: &mut Random, first: &Known, second: &Known, counts: &mut Counts) {
     let (n, g) = (first.n, first.n - first.m);
     let pair = match random.below(2) {
-        0 => Pair { n, g, form: Form::Columns, first: first.columns.clone(), second: second.columns.clone() },
+        0 => {
+            let mut bytes = |plan: &Known| plan_bytes(&plan.columns, any_mask(random, &plan.columns));
+            Pair { n, g, form: Form::Columns, first: bytes(first), second: bytes(second) }
+        }
         _ => Pair { n, g, form: Form::Runs, first: first.table(random), second: second.table(random) },
     };
     let more = if random.below(4) == 0 { random.between(1, 5) } else { 0 };
@@ -106,7 +119,7 @@ pub fn compare_known(random: &mut Random, first: &Known, second: &Known, counts:
 
 /// The number under which a comparison of any two lists is refused, 0 if it is not, with a witness list of this many places.
 pub fn refusal(pair: &Pair, places: usize) -> u8 {
-    let number = |list: &[u32]| accepted(pair.n, pair.g, pair.form, list).err().unwrap_or(0);
+    let number = |list: &[u32]| accepted(&pair.given(list)).err().unwrap_or(0);
     match lowest(number(&pair.first), number(&pair.second)) {
         0 if places < pair.n => 8,
         number => number,
@@ -115,8 +128,7 @@ pub fn refusal(pair: &Pair, places: usize) -> u8 {
 
 /// The plan of a list that is in order, by its standard columns.
 fn known(pair: &Pair, list: &[u32]) -> Known {
-    let plan = Plan::new(pair.n, pair.g, pair.form, list);
-    Known::new(pair.n - pair.g, &plan.answer(Question::Columns))
+    Known::new(pair.n - pair.g, &Plan::new(&pair.given(list)).standard())
 }
 
 /// Compares any two lists, with a witness list of this many places.

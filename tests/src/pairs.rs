@@ -1,11 +1,11 @@
 //! One exported call on two plans: their comparison with a guarded witness list, and the check of a claimed witness.
 
 use crate::calls::{bytes, guarded, shorts, MARGIN};
-use crate::check::plan::Form;
+use crate::check::plan::{Form, Given};
 use crate::guarded::{plan_check_witness, plan_compare_columns, plan_compare_runs};
 use planner::{PLAN_DIFFERENT, PLAN_NO, PLAN_SAME, PLAN_YES};
 
-/// Two plans in one form, columns or runs, with their sizes, as a call takes them.
+/// Two plans in one form, columns with a mask in bytes or runs, with their sizes, as a call takes them.
 #[derive(Clone, Debug, PartialEq, Eq)]
 pub struct Pair {
     pub n: usize,
@@ -13,6 +13,13 @@ pub struct Pair {
     pub form: Form,
     pub first: Vec<u32>,
     pub second: Vec<u32>,
+}
+
+impl Pair {
+    /// One of the two lists, as a call on one plan takes it.
+    pub fn given(&self, list: &[u32]) -> Given {
+        Given { n: self.n, g: self.g, form: self.form, list: list.to_vec(), signs: 0 }
+    }
 }
 
 /// What a comparison answers.

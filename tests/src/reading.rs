@@ -1,6 +1,8 @@
 //! Calls of the book's reader with guarded lists, held against the checking program.
 
+use crate::books::joined;
 use crate::calls::{bytes, guarded, MARGIN};
+use crate::check::plan::stride;
 use crate::check::reading::{judge, Judged};
 use crate::guarded::plan_read_book;
 use planner::Book;
@@ -19,14 +21,15 @@ fn start(book: &[u8]) -> String {
     format!("{} bytes {:02x?}", book.len(), &book[..book.len().min(SHOWN)])
 }
 
-/// Compares one accepted call: N, G, R and the count, the entries at the first places of the list, and every other byte of it as before.
-pub fn compare_taken(book: &[u8], places: usize, [n, g, r]: [usize; 3], columns: &[u8]) {
+/// Compares one accepted call: N, G, R and the count, the entries, in bytes, at the first places of the list, and every other byte of it as
+/// before.
+pub fn compare_taken(book: &[u8], places: usize, [n, g, r]: [usize; 3], plans: &[u8]) {
     let (answer, before, after) = call_reader(book, places);
     let [factors, generators, resolution] = [n, g, r].map(|size| size as u8);
-    let expected = Book { number: 0, factors, generators, resolution, count: columns.len() / n };
+    let expected = Book { number: 0, factors, generators, resolution, count: plans.len() / stride(n) };
     assert_eq!(answer, expected, "the answer with {places} places for {}", start(book));
     let mut list = before;
-    list[MARGIN..MARGIN + columns.len()].copy_from_slice(columns);
+    list[MARGIN..MARGIN + plans.len()].copy_from_slice(plans);
     assert!(after == list, "the list of {places} places after {}", start(book));
 }
 
@@ -42,7 +45,7 @@ pub fn compare_refused(book: &[u8], places: usize, number: u8) {
 pub fn compare_judged(book: &[u8], judged: &Judged, places: usize) -> u8 {
     match judged.read(places) {
         Ok((header, entries)) => {
-            compare_taken(book, places, [header.n, header.g, header.r], &bytes(&entries.concat()));
+            compare_taken(book, places, [header.n, header.g, header.r], &joined(entries));
             0
         }
         Err(number) => {

@@ -2,7 +2,7 @@
 //! the checking program.
 
 use crate::check::measures::{pattern, second_is_better};
-use crate::check::plan::{places, Form, Plan, Question};
+use crate::check::plan::{places, Form, Given, Plan, Question};
 use crate::check::refusals::{accepted, accepted_record, lowest};
 use crate::check::renamings::is_witness;
 use crate::check::smallest::smallest;
@@ -10,8 +10,11 @@ use crate::known::Known;
 use crate::program::{built, output_of, pipe_of};
 use std::process::Command;
 
-/// How many numbers a design record has: two counts and sixteen columns.
-pub const RECORD: usize = 18;
+/// How many numbers a design record has: two counts, sixteen columns and a mask.
+pub const RECORD: usize = 19;
+
+/// The place of the mask.
+const MASK: usize = 18;
 
 /// The places of a run table.
 pub const RUNS: usize = 128;
@@ -38,7 +41,7 @@ pub const IS_ENTRY: usize = 13;
 
 /// A call: which one, N, G, a number more, and the lists that it takes.
 ///
-/// The number is where the second list of words begins, how many places are lent, or R.
+/// The number is the signs of words, where the second list of words begins, how many places are lent, or R.
 #[derive(Clone, Debug, PartialEq, Eq)]
 pub struct Call {
     pub which: usize,
@@ -60,11 +63,12 @@ struct Expected {
     witness: Option<(Vec<u32>, Vec<u32>)>,
 }
 
-/// The design record of columns of m basic factors.
-pub fn record(m: usize, columns: &[u32]) -> Vec<u32> {
+/// The design record of columns of m basic factors and a mask.
+pub fn record(m: usize, columns: &[u32], mask: u32) -> Vec<u32> {
     let mut record = vec![columns.len() as u32, m as u32];
     record.extend(columns);
     record.resize(RECORD, 0);
+    record[MASK] = mask;
     record
 }
 
@@ -79,13 +83,13 @@ fn with_first(mut list: Vec<u32>, first: &[u32]) -> Vec<u32> {
     list
 }
 
-fn design_fields(record: &[u32]) -> [Field; 3] {
-    [("factors", vec![record[0]]), ("basics", vec![record[1]]), ("columns", record[2..].to_vec())]
+fn design_fields(record: &[u32]) -> [Field; 4] {
+    [("factors", vec![record[0]]), ("basics", vec![record[1]]), ("columns", record[2..MASK].to_vec()), ("mask", vec![record[MASK]])]
 }
 
-/// A refusal's number, the standard columns as a record; the record of zeros if refused.
+/// A refusal's number, the standard columns and the mask as a record; the record of zeros if refused.
 fn design(plan: Result<Plan, u8>) -> Vec<Field> {
-    let standard = |plan: &Plan| record(plan.n - plan.g, &plan.answer(Question::Columns));
+    let standard = |plan: &Plan| record(plan.n - plan.g, &plan.standard(), plan.mask());
     let record = plan.as_ref().map_or(vec![0; RECORD], standard);
     [vec![("number", vec![number(&plan).into()])], design_fields(&record).to_vec()].concat()
 }
@@ -102,20 +106,24 @@ fn resolution(plan: Result<Plan, u8>) -> Vec<Field> {
     vec![("number", vec![number(&plan).into()]), ("resolution", shortest)]
 }
 
-/// A refusal's number, and the list of which k places were lent.
+/// A refusal's number, the signs of words if they are asked for, 0 if refused, and the list of which k places were lent.
 fn lent(plan: Result<Plan, u8>, question: Question, k: usize) -> Vec<Field> {
     let plan = plan.and_then(|plan| if k < places(plan.n, plan.g, question) { Err(8) } else { Ok(plan) });
     let first = plan.as_ref().map_or(Vec::new(), |plan| plan.answer(question));
-    vec![("number", vec![number(&plan).into()]), ("list", with_first(vec![NUMBER; LENT], &first))]
+    let signs = plan.as_ref().map_or(0, |plan| plan.signs());
+    let mut fields = vec![("number", vec![number(&plan).into()])];
+    fields.extend((question == Question::Words).then(|| ("signs", vec![signs])));
+    fields.push(("list", with_first(vec![NUMBER; LENT], &first)));
+    fields
 }
 
 /// The words of the better plan, those of the first if neither is; none if one is refused.
 fn less_aberration(call: &Call) -> Vec<Field> {
     let Call { n, g, k, ref list, .. } = *call;
     let (first, second) = list.split_at(k);
-    let words = match (accepted(n, g, Form::Words, first), accepted(n, g, Form::Words, second)) {
-        (Ok(one), Ok(two)) if second_is_better(n - g, &pattern(n, &one.words), &pattern(n, &two.words)) => second,
-        (Ok(_), Ok(_)) => first,
+    let words = match [first, second].map(|words| accepted(&Given::words(n, g, words, 0))) {
+        [Ok(one), Ok(two)] if second_is_better(n, &pattern(n, &one.words), &pattern(n, &two.words)) => second,
+        [Ok(_), Ok(_)] => first,
         _ => &[],
     };
     vec![("list", words.to_vec())]
@@ -137,7 +145,7 @@ fn compared(call: &Call) -> Expected {
     if k < n {
         return Expected { fields: vec![("refused", vec![8]), untouched()], witness: None };
     }
-    let known = |plan: &Plan| Known::new(n - g, &plan.answer(Question::Columns));
+    let known = |plan: &Plan| Known::new(n - g, &plan.standard());
     let (one, two) = (known(first), known(second));
     if one.label == two.label {
         return Expected { fields: vec![("same", vec![0]), untouched()], witness: Some((first.runs.clone(), second.runs.clone())) };
@@ -151,13 +159,13 @@ fn reduced(plan: Result<Plan, u8>, other: u8, k: usize, among: &[u32]) -> Expect
     let plan = plan.and_then(|plan| if k < plan.n { Err(8) } else { Ok(plan) });
     let refused = if refused == 0 { number(&plan) } else { refused };
     let form = match &plan {
-        Ok(plan) if refused == 0 => record(plan.n - plan.g, &smallest(plan.n - plan.g, &plan.answer(Question::Columns))),
+        Ok(plan) if refused == 0 => record(plan.n - plan.g, &smallest(plan.n - plan.g, &plan.standard()), 0),
         _ => vec![0; RECORD],
     };
     let place = among.chunks(RECORD).position(|record| refused == 0 && record == form).map_or(0, |i| i + 1);
-    let start = [("number", vec![refused.into()]), ("mask", vec![0]), ("place", vec![place as u32])];
+    let start = [("number", vec![refused.into()]), ("switches", vec![0]), ("place", vec![place as u32])];
     let witness = plan.ok().filter(|_| refused == 0).map(|plan| {
-        let second = Plan::new(plan.n, plan.g, Form::Columns, &form[2..2 + plan.n]);
+        let second = Plan::new(&Given::columns(plan.n, plan.g, &form[2..2 + plan.n], 0));
         (plan.runs, second.runs)
     });
     Expected { fields: [start.to_vec(), design_fields(&form).to_vec(), vec![untouched()]].concat(), witness }
@@ -178,8 +186,10 @@ impl Call {
         Call { which, n, g, k, list: numbers[4..].to_vec() }
     }
 
+    /// The plan of the list; of words with the signs that the number gives.
     fn plan(&self, form: Form) -> Result<Plan, u8> {
-        accepted(self.n, self.g, form, &self.list)
+        let signs = if form == Form::Words { self.k as u32 } else { 0 };
+        accepted(&Given { n: self.n, g: self.g, form, list: self.list.clone(), signs })
     }
 
     fn record(&self) -> Result<Plan, u8> {
@@ -188,11 +198,11 @@ impl Call {
 
     /// Whether the columns are their plan's smallest form, the sizes are in bounds and no word is shorter than R.
     fn is_entry(&self) -> bool {
-        let plan = self.plan(Form::Columns);
+        let plan = accepted(&Given::columns(self.n, self.g, &self.list, 0));
         (3..=16).contains(&self.k)
             && plan.is_ok_and(|plan| {
                 let short = plan.answer(Question::Pattern).iter().take(self.k - 1).any(|&count| count > 0);
-                !short && smallest(self.n - self.g, &plan.answer(Question::Columns)) == self.list
+                !short && smallest(self.n - self.g, &plan.standard()) == self.list
             })
     }
 
@@ -217,13 +227,21 @@ impl Call {
         Expected { fields, witness: None }
     }
 
+    /// Whether each record that the call takes has mask 0.
+    fn unswitched(&self) -> bool {
+        self.list.chunks_exact(RECORD).all(|record| record[MASK] == 0)
+    }
+
     /// Fails unless the program's line is what is expected. Returns its first name with the number after it: a refusal's for most calls.
     fn compare(&self, found: &str) -> Answer {
         let Expected { mut fields, witness } = self.expected();
         if let Some((first, second)) = witness {
-            let names = numbers_after(found, "list");
-            let names = names.get(..self.n).unwrap_or(&[]);
-            assert!(is_witness(self.n, &first, &second, names, 0), "no witness\n call: {self:?}\n found: {found}");
+            let (place, switching) = if self.which == COMPARE_DESIGNS { (0, "same") } else { (1, "switches") };
+            let (names, switches) = (numbers_after(found, "list"), numbers_after(found, switching));
+            let (names, switches) = (names.get(..self.n).unwrap_or(&[]), switches.first().copied().unwrap_or(0));
+            assert!(is_witness(self.n, &first, &second, names, switches), "no witness\n call: {self:?}\n found: {found}");
+            assert!(switches == 0 || !self.unswitched(), "switches between masks 0\n call: {self:?}\n found: {found}");
+            fields[place].1[0] = switches;
             let list = fields.last_mut().expect("a line ends with the list that was lent");
             list.1[..self.n].copy_from_slice(names);
         }

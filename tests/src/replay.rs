@@ -6,16 +6,16 @@ use crate::recorded::Recorded;
 use std::io::Read;
 
 macro_rules! replayed {
-    ($($name:ident($($size:ident),*; $($list:ident: $from:ty),*; $($lent:ident: $to:ty),* $(; $mask:ident)?) -> $answer:ty;)*) => {
+    ($($name:ident($($size:ident),*; $($list:ident: $from:ty),*; $($bits:ident)?; $($lent:ident: $to:ty),*) -> $answer:ty;)*) => {
         /// For each function, in the order of their names, what makes its next call of the record. Fails unless the answer and every list
         /// are as recorded, and nothing beside a list has changed.
         const CALLS: &[fn(&mut Recorded, Wider)] = &[$(|record, wider| {
             $(let $size = record.number() as usize;)*
-            $(let $mask = record.number() as u16;)?
+            $(let $bits = record.number() as u16;)?
             $(let $list = Block::<$from>::new(record.list(), wider);)*
             $(let mut $lent = Block::<$to>::new(record.list(), wider);)*
-            let answer = planner::$name($($size,)* $($list.read(),)* $($lent.lent(),)* $($mask)?);
-            let input = ($($size,)* $($mask,)? $($list.owner(),)* $($lent.owner().len(),)*);
+            let answer = planner::$name($($size,)* $($list.read(),)* $($bits,)? $($lent.lent(),)*);
+            let input = ($($size,)* $($list.owner(),)* $($bits,)? $($lent.owner().len(),)*);
             assert_eq!(answer.numbers(), record.answer(), "the answer, and the recorded one, of {}{input:?}", stringify!($name));
             $(check(&$list, $list.owner(), || format!("{} of {}{input:?}", stringify!($list), stringify!($name)));)*
             $(check(&$lent, &record.left($lent.owner().len()), || format!("{} of {}{input:?}", stringify!($lent), stringify!($name)));)*

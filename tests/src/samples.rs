@@ -1,8 +1,7 @@
-//! Random plans in their three forms, and lists damaged in many ways.
+//! Random plans in their three forms, with any signs and switches, and lists damaged in many ways.
 
-use crate::calls::Given;
-use crate::check::columns::rank_is;
-use crate::check::plan::Form;
+use crate::check::columns::{last_letters, rank_is};
+use crate::check::plan::{Form, Given};
 use crate::check::runs::runs_of_columns;
 use crate::check::words::words_of;
 use crate::random::Random;
@@ -62,6 +61,22 @@ pub fn generators(random: &mut Random, plan: &Sample) -> Vec<u32> {
     chosen
 }
 
+/// A mask that the columns allow: 0, or any.
+pub fn any_mask(random: &mut Random, columns: &[u32]) -> u32 {
+    match random.below(3) {
+        0 => 0,
+        _ => random.below(1 << 16) as u32 & last_letters(columns),
+    }
+}
+
+/// Signs of g words: all plus, or any.
+pub fn any_signs(random: &mut Random, g: usize) -> u32 {
+    match random.below(3) {
+        0 => 0,
+        _ => random.below(1 << g) as u32,
+    }
+}
+
 /// The plan's runs in any order, with the levels of some factors switched.
 pub fn table(random: &mut Random, plan: &Sample) -> Vec<u32> {
     let switched = random.below(1 << plan.n) as u32;
@@ -70,14 +85,14 @@ pub fn table(random: &mut Random, plan: &Sample) -> Vec<u32> {
     runs
 }
 
-/// The plan in a form of its own choice of generators, order of runs and levels.
+/// The plan in a form of its own choice of generators, order of runs, and levels: signs, mask or switches.
 pub fn given(random: &mut Random, plan: &Sample, form: Form) -> Given {
-    let list = match form {
-        Form::Words => generators(random, plan),
-        Form::Columns => plan.columns.clone(),
-        Form::Runs => table(random, plan),
-    };
-    Given { n: plan.n, g: plan.n - plan.m, form, list }
+    let (n, g) = (plan.n, plan.n - plan.m);
+    match form {
+        Form::Words => Given::words(n, g, &generators(random, plan), any_signs(random, g)),
+        Form::Columns => Given::columns(n, g, &plan.columns, any_mask(random, &plan.columns)),
+        Form::Runs => Given::runs(n, g, &table(random, plan)),
+    }
 }
 
 /// Sizes of which at least one is refused, or which the list does not fit.
@@ -116,22 +131,39 @@ fn other_number(random: &mut Random, form: Form, list: &mut [u32]) {
 
 /// The list with another count of numbers.
 fn other_count(random: &mut Random, list: &mut Vec<u32>) {
-    match random.below(4) {
+    match random.below(6) {
         0 if !list.is_empty() => {
             list.pop();
         }
         1 => list.clear(),
         2 => list.push(0),
+        3 => list.truncate(list.len().saturating_sub(2)),
+        4 => list.extend([0, 0]),
         _ => list.push(random.below(200) as u32),
+    }
+}
+
+/// The list with one bit of its signs or its mask changed, or all of them; a run table stays.
+fn other_bits(random: &mut Random, given: &mut Given) {
+    let bits = if random.below(4) == 0 { random.below(1 << 16) as u32 } else { 1 << random.below(16) };
+    let count = given.list.len();
+    match given.form {
+        Form::Words => given.signs ^= bits,
+        Form::Columns if count >= 2 => {
+            given.list[count - 2] ^= bits & 0xff;
+            given.list[count - 1] ^= bits >> 8;
+        }
+        _ => {}
     }
 }
 
 /// The given list damaged in one way. Some damage leaves a plan, only another one.
 pub fn damaged(random: &mut Random, given: &Given) -> Given {
     let mut other = given.clone();
-    match random.below(8) {
+    match random.below(10) {
         0 | 1 => (other.n, other.g) = other_sizes(random, given.n, given.g),
         2 => other_count(random, &mut other.list),
+        3 | 4 => other_bits(random, &mut other),
         _ if !other.list.is_empty() => other_number(random, given.form, &mut other.list),
         _ => other.list.push(random.below(200) as u32),
     }

@@ -1,11 +1,11 @@
 //! Calls of every exported function, on inputs good and damaged, as many as wanted, each held against the checking program.
 
 use crate::book_samples::{drawn, some_of};
-use crate::books::{self, joined};
-use crate::calls::Given;
+use crate::books;
+use crate::calls::bytes;
 use crate::catalogues::{compare_catalogue, compare_refused, every_smallest_form, refusal, with_resolution, Entries};
 use crate::check::book::book;
-use crate::check::plan::Form;
+use crate::check::plan::{plan_bytes, stride, Form, Given};
 use crate::check::reading::judge;
 use crate::check::refusals::{accepted, lowest};
 use crate::check::renamings::is_witness;
@@ -19,7 +19,7 @@ use crate::pairs::{call_check, Pair, Verdict};
 use crate::random::Random;
 use crate::reading::compare_judged;
 use crate::records::{keep, made, slowest};
-use crate::samples::{columns, damaged, given, sample, short_sample, Sample};
+use crate::samples::{any_mask, columns, damaged, given, sample, short_sample, Sample};
 use std::collections::BTreeMap;
 
 const FORMS: [Form; 3] = [Form::Words, Form::Columns, Form::Runs];
@@ -27,7 +27,7 @@ const FORMS: [Form; 3] = [Form::Words, Form::Columns, Form::Runs];
 /// The most factors of the catalogues that are compared.
 const CATALOGUE_FACTORS: usize = 7;
 
-/// The most columns in a part of a list of plans: the checking program takes its time for each plan.
+/// The most bytes in a part of a list of plans: the checking program takes its time for each plan.
 const FEW: usize = 40;
 
 /// The most places that are lent for a book, whatever its damaged header counts.
@@ -142,10 +142,19 @@ impl Trial {
         }
     }
 
-    /// The plan by columns, damaged or not, as part of a list of few plans.
+    /// The plan in bytes, damaged or not, as part of a list of few plans.
     fn plans(&mut self, plan: &Sample) -> Given {
         let mut part = self.list(plan, Form::Columns);
         part.list.truncate(FEW);
+        part
+    }
+
+    /// The same, for a book: where it has the bytes of a plan, its mask is mostly 0.
+    fn plans_for_book(&mut self, plan: &Sample) -> Given {
+        let mut part = self.plans(plan);
+        if part.list.len() == stride(plan.n) && self.random.below(4) > 0 {
+            part.list[plan.n..].fill(0);
+        }
         part
     }
 
@@ -206,10 +215,11 @@ impl Trial {
             let Given { n, g, list, .. } = self.list(&other, form);
             let mut sought = Sought { n, g, form, plan: list, among: Vec::new() };
             let smallest = form_of(&sought);
-            if self.random.below(2) == 0 {
-                sought.among = [self.plans(plan).list, smallest.clone()].concat();
+            if self.random.below(2) == 0 && !smallest.is_empty() {
+                let masks = [any_mask(&mut self.random, &smallest), 0];
+                sought.among = [self.plans(plan).list, masks.map(|mask| plan_bytes(&smallest, mask)).concat()].concat();
             }
-            for places in around(plan.n) {
+            for places in around(stride(plan.n)) {
                 compare_sought(&sought, &smallest, (places, self.near(plan.n)));
             }
         }
@@ -223,8 +233,8 @@ impl Trial {
     /// The book of the plan and of another of its size, for any R.
     fn books(&mut self, plan: &Sample) {
         let other = Sample { columns: columns(&mut self.random, plan.n, plan.m), ..*plan };
-        let (first, second) = (self.plans(plan), self.plans(&other));
-        let plans = joined(&[first.list, second.list]);
+        let (first, second) = (self.plans_for_book(plan), self.plans_for_book(&other));
+        let plans = bytes(&[first.list, second.list].concat());
         let r = self.random.between(2, 5);
         for places in around(book(plan.n, plan.n - plan.m, r, &[plan.columns.clone(), other.columns]).len()) {
             books::compare_any(first.n, first.g, r, &plans, places);
@@ -249,7 +259,7 @@ impl Trial {
     fn catalogues(&mut self) {
         let (n, m, r, entries) = self.catalogue();
         let room = self.random.below(entries.len() + 1);
-        for places in around(room * n).into_iter().chain(around(entries.len() * n)) {
+        for places in around(room * stride(n)).into_iter().chain(around(entries.len() * stride(n))) {
             compare_catalogue(n, n - m, r, &entries, places);
         }
         let sizes = [0, 1, 2, 3, 5, 8, 15, 16, 17, 18, 255, 256, 1 << 32, usize::MAX];
@@ -264,7 +274,7 @@ impl Trial {
     fn readings(&mut self, plan: &Sample) {
         let (n, m, r, entries) = self.catalogue();
         let few = some_of(&mut self.random, &entries, 4);
-        let form = match accepted(plan.n, plan.n - plan.m, Form::Columns, &plan.columns) {
+        let form = match accepted(&Given::columns(plan.n, plan.n - plan.m, &plan.columns, 0)) {
             Ok(_) => smallest(plan.m, &plan.columns),
             Err(_) => plan.columns.clone(),
         };
@@ -288,7 +298,7 @@ impl Trial {
 fn near(random: &mut Random, plan: &Sample) -> Sample {
     let mut columns = plan.columns.clone();
     columns[random.below(plan.n)] = random.below(1 << plan.m) as u32;
-    let changed = accepted(plan.n, plan.n - plan.m, Form::Columns, &columns).is_ok();
+    let changed = accepted(&Given::columns(plan.n, plan.n - plan.m, &columns, 0)).is_ok();
     Sample { columns: if changed { columns } else { plan.columns.clone() }, ..*plan }
 }
 
@@ -298,7 +308,7 @@ fn sample_of((m, columns): Columns) -> Sample {
 
 /// The check of any names and mask between any two tables, against the checking program.
 fn check_any(pair: &Pair, names: &[u32], mask: u32) {
-    let number = |list: &[u32]| accepted(pair.n, pair.g, Form::Runs, list).err().unwrap_or(0);
+    let number = |list: &[u32]| accepted(&pair.given(list)).err().unwrap_or(0);
     let expected = match lowest(number(&pair.first), number(&pair.second)) {
         0 if is_witness(pair.n, &pair.first, &pair.second, names, mask) => Verdict::Yes,
         0 => Verdict::No,

@@ -1,7 +1,7 @@
 //! The comparison of two lists of words by aberration.
 
 use plan_tests::catalogues::{entries, patterns_and_beginnings};
-use plan_tests::check::plan::{Form, Plan, Question};
+use plan_tests::check::plan::{Form, Given, Plan, Question};
 use plan_tests::compare::{compare_ranking, RANKING_ANSWERS};
 use plan_tests::known::Known;
 use plan_tests::published::{agrees, columns as columns_with, rows, Row, BASICS};
@@ -98,7 +98,7 @@ fn damaged_pairs_are_refused_under_the_lowest_number_and_every_number_is_reached
 
 /// A plan of m basic factors by its columns: G words that generate it, and its pattern, by the checking program.
 fn known(m: usize, columns: &[u32]) -> (Vec<u32>, Vec<u32>) {
-    let words = Plan::new(columns.len(), columns.len() - m, Form::Columns, columns).answer(Question::Words);
+    let words = Plan::new(&Given::columns(columns.len(), columns.len() - m, columns, 0)).answer(Question::Words);
     (words, Known::new(m, columns).pattern)
 }
 

@@ -1,7 +1,7 @@
 //! The rows of document 000's Appendix B: recomputed first, and used as tests of the library only where they agree.
 
-use plan_tests::calls::{call, Given};
-use plan_tests::check::plan::{Form, Plan, Question};
+use plan_tests::calls::call;
+use plan_tests::check::plan::{Given, Plan, Question};
 use plan_tests::published::{agrees, columns, disagreeing, printed_pattern, recomputed, rows, Row, BASICS};
 
 fn row(label: &str) -> Row {
@@ -54,10 +54,11 @@ fn the_library_gives_the_printed_pattern_and_resolution_of_every_row_that_agrees
     for row in used {
         let printed = printed_pattern(row.k, row.counts.as_ref().expect("counts"));
         let resolution = printed.iter().position(|&count| count > 0).expect("a word") as u32 + 1;
-        let plan = Plan::new(row.k, row.k - BASICS, Form::Columns, &columns(&row.added));
-        let lists = [(Form::Columns, columns(&row.added)), (Form::Words, plan.answer(Question::Words)), (Form::Runs, plan.runs)];
-        for (form, list) in lists {
-            let given = Given { n: row.k, g: row.k - BASICS, form, list };
+        let (n, g) = (row.k, row.k - BASICS);
+        let by_columns = Given::columns(n, g, &columns(&row.added), 0);
+        let plan = Plan::new(&by_columns);
+        let by_words = Given::words(n, g, &plan.answer(Question::Words), 0);
+        for given in [by_columns, by_words, Given::runs(n, g, &plan.runs)] {
             let found = call(&given, Question::Pattern, row.k);
             assert_eq!((found.answer, found.result(row.k)), (0, printed.clone()), "pattern of {row:?} from {given:?}");
             let found = call(&given, Question::Resolution, 1);

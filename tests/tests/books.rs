@@ -3,14 +3,15 @@
 use plan_tests::books::{compare_any, compare_book, compare_refused, compare_written, joined};
 use plan_tests::catalogues::{every_smallest_form, with_resolution};
 use plan_tests::check::book::{entry, header, MOST_PLANS};
+use plan_tests::check::columns::last_letters;
 use plan_tests::check::measures::resolution;
-use plan_tests::check::plan::{Form, Plan};
+use plan_tests::check::plan::{plan_bytes, stride, Given, Plan};
 use plan_tests::random::Random;
 use plan_tests::samples::{columns, sample};
 
 /// The resolution that a plan without a word below it can be wanted with: at least 3, at most 16.
 fn most_wanted(n: usize, m: usize, plan: &[u32]) -> usize {
-    let words = Plan::new(n, n - m, Form::Columns, plan).words;
+    let words = Plan::new(&Given::columns(n, n - m, plan, 0)).words;
     if words.is_empty() {
         16
     } else {
@@ -32,8 +33,8 @@ fn the_book_of_5_1_3_byte_by_byte() {
 
 #[test]
 fn below_3_factors_the_pattern_is_empty() {
-    compare_written(1, 0, 3, &[1, 1], 12, &[0x01, 1, 0, 3, 2, 0, 0x21, 1, 0x41, 0x21, 1, 0x41]);
-    compare_written(2, 0, 16, &[2, 1], 11, &[0x01, 2, 0, 16, 1, 0, 0x22, 2, 1, 0x42]);
+    compare_written(1, 0, 3, &[1, 0, 0, 1, 0, 0], 12, &[0x01, 1, 0, 3, 2, 0, 0x21, 1, 0x41, 0x21, 1, 0x41]);
+    compare_written(2, 0, 16, &[2, 1, 0, 0], 11, &[0x01, 2, 0, 16, 1, 0, 0x22, 2, 1, 0x42]);
 }
 
 #[test]
@@ -80,11 +81,11 @@ fn random_lists_of_plans_in_any_order_of_columns() {
 
 #[test]
 fn every_number_and_the_lowest_of_several_plans() {
-    let good = [1, 2, 3, 4, 8];
-    let above = [1, 2, 3, 4, 16];
-    let low = [1, 2, 3, 4, 5];
-    let short = [1, 2, 4, 4, 8];
-    let call = |plans: &[[u8; 5]], r, places, number| compare_refused(5, 1, r, &plans.concat(), places, number);
+    let good = [1, 2, 3, 4, 8, 0, 0];
+    let above = [1, 2, 3, 4, 16, 0, 0];
+    let low = [1, 2, 3, 4, 5, 0, 0];
+    let short = [1, 2, 4, 4, 8, 0, 0];
+    let call = |plans: &[[u8; 7]], r, places, number| compare_refused(5, 1, r, &plans.concat(), places, number);
     for n in [0, 17, 18, 65_536, usize::MAX] {
         compare_refused(n, 1, 2, &good, 100, 1);
         compare_refused(n, n, 3, &[], 100, 1);
@@ -97,7 +98,7 @@ fn every_number_and_the_lowest_of_several_plans() {
         compare_refused(5, 1, r, &good[..4], 0, 3);
         compare_refused(5, 1, r, &[], 100, 3);
     }
-    for len in [1, 4, 6, 9, 11] {
+    for len in [1, 4, 5, 6, 8, 9, 13, 15] {
         compare_refused(5, 1, 3, &[above, above, above].concat()[..len], 0, 4);
     }
     call(&[above], 3, 0, 5);
@@ -109,7 +110,26 @@ fn every_number_and_the_lowest_of_several_plans() {
     call(&[short, low, above, good], 3, 1_000, 5);
     call(&[good, short, low, good], 3, 1_000, 6);
     call(&[good, good, short], 3, 1_000, 7);
-    call(&[[1, 2, 4, 8, 15], good], 5, 1_000, 7);
+    call(&[[1, 2, 4, 8, 15, 0, 0], good], 5, 1_000, 7);
+}
+
+/// A mask that the columns allow, one that they bar, and one past factor N, each with plans that are in order, of low rank or with short words.
+#[test]
+fn a_mask_other_than_0_is_refused_under_5_before_6_and_7() {
+    for columns in [[1, 2, 3, 4, 8], [1, 2, 3, 4, 5], [1, 2, 4, 4, 8], [1, 2, 4, 8, 15]] {
+        let allowed = last_letters(&columns);
+        assert_ne!(allowed, 0);
+        for mask in (1..32).chain([allowed, 1 << 5, 1 << 8, 1 << 15, 0xffff]) {
+            for others in 0..3 {
+                let mut plans = joined(&vec![vec![1, 2, 3, 4, 8]; others]);
+                plans.extend(plan_bytes(&columns, mask).iter().map(|&byte| byte as u8));
+                plans.extend(joined(&[vec![1, 2, 4, 4, 8]]));
+                compare_refused(5, 1, 3, &plans, 1_000, 5);
+                compare_refused(5, 1, 6, &plans, 0, 5);
+                compare_refused(5, 1, 2, &plans, 0, 3);
+            }
+        }
+    }
 }
 
 #[test]
@@ -135,7 +155,7 @@ fn a_full_factorial_meets_every_resolution() {
 fn a_book_has_65_535_plans_and_no_more() {
     for (n, g, plan) in [(1, 0, vec![1]), (3, 1, vec![3, 1, 2]), (16, 9, vec![1, 2, 4, 8, 16, 32, 64, 7, 25, 42, 53, 75, 86, 97, 127, 112])]
     {
-        let (given, one) = (plan.iter().map(|&column| column as u8).collect::<Vec<u8>>(), entry(n, g, &plan));
+        let (given, one) = (joined(&[plan.clone()]), entry(n, g, &plan));
         let expected = [header(n, g, 3, MOST_PLANS), one.repeat(MOST_PLANS)].concat();
         let plans = given.repeat(MOST_PLANS);
         compare_written(n, g, 3, &plans, expected.len(), &expected);
@@ -148,9 +168,9 @@ fn a_book_has_65_535_plans_and_no_more() {
 
 #[test]
 fn too_many_plans_come_before_a_fault_of_one() {
-    for fault in [0, 255, 2] {
-        let mut plans = [1, 2, 3].repeat(MOST_PLANS + 1);
-        plans[30_000] = fault;
+    for (place, fault) in [(0, 0), (0, 255), (0, 2), (3, 4), (4, 1)] {
+        let mut plans = [1, 2, 3, 0, 0].repeat(MOST_PLANS + 1);
+        plans[30_000 + place] = fault;
         compare_refused(3, 1, 3, &plans, 100, 4);
         compare_refused(3, 1, 17, &plans, 100, 3);
     }
@@ -165,7 +185,7 @@ fn damaged_lists() {
         let (n, m) = (first.n, first.m);
         let mut plans = joined(&[first.columns, columns(&mut random, n, m)]);
         for _ in 0..random.below(3) {
-            let place = random.below(plans.len());
+            let place = [random.below(plans.len()), random.below(2) * stride(n) + random.below(n)][random.below(2)];
             plans[place] = match random.below(4) {
                 0 => 0,
                 1 => plans[random.below(plans.len())],
@@ -174,7 +194,7 @@ fn damaged_lists() {
             };
         }
         if random.below(20) == 0 {
-            plans.pop();
+            plans.truncate(plans.len() - random.between(1, 3));
         }
         let r = [3, 3, 3, 4, 2, 5][random.below(6)];
         let places = [600, 600, 600, 30][random.below(4)];

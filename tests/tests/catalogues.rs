@@ -8,6 +8,7 @@ use plan_tests::check::columns::rank_is;
 use plan_tests::check::counting::sets_of_rank;
 use plan_tests::check::growth::{grown, Grown};
 use plan_tests::check::labels::label;
+use plan_tests::check::plan::stride;
 use plan_tests::check::renamings::{differences, every_renaming, renamed};
 use plan_tests::check::runs::runs_of_columns;
 use plan_tests::check::smallest::{
@@ -101,10 +102,10 @@ fn every_catalogue_of_up_to_8_factors_is_exactly_the_enumerated_one_for_lists_of
         for r in 3..=3.max(n + 1) {
             let entries = with_resolution(&forms, r);
             for room in 0..=entries.len() + 1 {
-                compare_catalogue(n, n - m, r, &entries, room * n);
-                compare_catalogue(n, n - m, r, &entries, room * n + n - 1);
+                compare_catalogue(n, n - m, r, &entries, room * stride(n));
+                compare_catalogue(n, n - m, r, &entries, room * stride(n) + stride(n) - 1);
             }
-            compare_catalogue(n, n - m, r, &entries, entries.len() * n + 100);
+            compare_catalogue(n, n - m, r, &entries, entries.len() * stride(n) + 100);
             compared += 1;
         }
     }
@@ -117,7 +118,7 @@ fn a_full_factorial_meets_every_resolution_and_no_other_plan_one_above_its_facto
         let full = vec![(0..m).map(|i| 1 << i).collect()];
         for r in if n == m { 3..=16 } else { 3.max(n + 1)..=16 } {
             let entries = if n == m { full.clone() } else { Vec::new() };
-            compare_catalogue(n, n - m, r, &entries, 3 * n);
+            compare_catalogue(n, n - m, r, &entries, 3 * stride(n));
         }
     }
 }
@@ -135,8 +136,8 @@ fn a_higher_resolution_has_the_entries_of_a_lower_one_that_have_no_shorter_word(
         let (least, mut entries) = lowest_resolution(n, m);
         for r in least + 1..=16 {
             entries = with_resolution(&entries, r);
-            compare_catalogue(n, n - m, r, &entries, entries.len() * n);
-            compare_catalogue(n, n - m, r, &entries, entries.len() / 2 * n);
+            compare_catalogue(n, n - m, r, &entries, entries.len() * stride(n));
+            compare_catalogue(n, n - m, r, &entries, entries.len() / 2 * stride(n));
         }
     }
 }
@@ -145,7 +146,7 @@ fn a_higher_resolution_has_the_entries_of_a_lower_one_that_have_no_shorter_word(
 fn lists_shorter_than_one_entry_and_every_length_between_entries() {
     for (n, m) in [(5, 4), (6, 4), (7, 5)] {
         let entries = with_resolution(&every_smallest_form(n, m), 3);
-        for places in 0..=(entries.len() + 2) * n {
+        for places in 0..=(entries.len() + 2) * stride(n) {
             compare_catalogue(n, n - m, 3, &entries, places);
         }
     }
@@ -221,7 +222,7 @@ fn no_plan_of_up_to_14_factors_in_128_runs_is_missing() {
 fn document_000_from_12_factors_on_no_plan_in_128_runs_has_resolution_5() {
     assert_eq!(count(11, 7, 5), 1);
     for (n, r) in (12..=16).flat_map(|n| (5..=16).map(move |r| (n, r))) {
-        compare_catalogue(n, n - 7, r, &Vec::new(), n);
+        compare_catalogue(n, n - 7, r, &Vec::new(), stride(n));
     }
 }
 
@@ -230,8 +231,8 @@ fn every_size_fills_a_short_list_with_its_first_smallest_forms() {
     for (n, m) in sizes(16) {
         let first = first_forms(n, m, 4);
         for room in 0..=3 {
-            compare_catalogue(n, n - m, 3, &first, room * n);
-            compare_catalogue(n, n - m, 3, &first, room * n + n - 1);
+            compare_catalogue(n, n - m, 3, &first, room * stride(n));
+            compare_catalogue(n, n - m, 3, &first, room * stride(n) + stride(n) - 1);
         }
     }
 }

@@ -1,11 +1,11 @@
 //! Comparisons of lists that are damaged in every way: each refusal is reached, under the lowest number, and no list is touched.
 
-use plan_tests::check::plan::Form;
+use plan_tests::check::plan::{plan_bytes, Form};
 use plan_tests::compare_pairs::{compare_any, Counts};
 use plan_tests::known::Known;
 use plan_tests::pairs::Pair;
 use plan_tests::random::Random;
-use plan_tests::samples::{columns, damaged, given, sample, short_sample};
+use plan_tests::samples::{any_mask, columns, damaged, given, sample, short_sample};
 
 const FORMS: [Form; 2] = [Form::Columns, Form::Runs];
 
@@ -46,7 +46,7 @@ fn every_size_is_refused_under_1_or_2_as_defined() {
         for &g in &sizes {
             for form in FORMS {
                 compare_any(&pair(n, g, form, &[], &[]), 0, &mut counts);
-                compare_any(&pair(n, g, form, &[1, 2, 4, 7], &[1, 2, 4, 7]), 20, &mut counts);
+                compare_any(&pair(n, g, form, &[1, 2, 4, 7, 0, 0], &[1, 2, 4, 7, 8, 0]), 20, &mut counts);
                 compare_any(&pair(n, g, form, &[0, 5, 6, 3], &[1, 2]), 3, &mut counts);
             }
         }
@@ -62,7 +62,7 @@ fn lists_of_every_wrong_count_are_refused_under_4_on_either_side() {
     for form in FORMS {
         for (n, m) in [(1, 1), (3, 2), (4, 3), (7, 4), (16, 7)] {
             let plan = Known::new(m, &columns(&mut random, n, m));
-            let good = if form == Form::Columns { plan.columns.clone() } else { plan.table(&mut random) };
+            let good = if form == Form::Columns { plan_bytes(&plan.columns, 0) } else { plan.table(&mut random) };
             let mut counts = Counts::default();
             for count in (0..140).filter(|&count| count != good.len()) {
                 let wrong: Vec<u32> = good.iter().copied().cycle().take(count).collect();
@@ -78,10 +78,12 @@ fn lists_of_every_wrong_count_are_refused_under_4_on_either_side() {
 #[test]
 fn every_pair_of_column_lists_of_3_factors_with_2_basic_is_answered_as_defined() {
     let lists: Vec<Vec<u32>> = (0..216).map(|code| vec![code % 6, code / 6 % 6, code / 36]).collect();
+    let masks = [0, 1, 2, 4, 6, 8, 0x100];
     let mut counts = Counts::default();
     for (i, first) in lists.iter().enumerate() {
         for (j, second) in lists.iter().enumerate() {
-            compare_any(&pair(3, 1, Form::Columns, first, second), 2 + (i + j) % 3, &mut counts);
+            let bytes = |columns: &[u32], turn: usize| plan_bytes(columns, [0, masks[turn % masks.len()]][turn / 7 % 2]);
+            compare_any(&pair(3, 1, Form::Columns, &bytes(first, i + j), &bytes(second, i + 5 * j)), 2 + (i + j) % 3, &mut counts);
         }
     }
     for number in [5, 6, 7, 8] {
@@ -97,7 +99,8 @@ fn a_witness_list_of_every_length_is_enough_from_n_places_on() {
         let plan = Known::new(m, &columns(&mut random, n, m));
         let others = [Some(plan.scrambled(&mut random)), plan.near_miss(&mut random)];
         for other in others.iter().flatten() {
-            let records = pair(n, n - m, Form::Columns, &plan.columns, &other.columns);
+            let [first, second] = [&plan, other].map(|plan| plan_bytes(&plan.columns, any_mask(&mut random, &plan.columns)));
+            let records = pair(n, n - m, Form::Columns, &first, &second);
             let tables = pair(n, n - m, Form::Runs, &plan.table(&mut random), &other.table(&mut random));
             let mut counts = Counts::default();
             for places in 0..40 {

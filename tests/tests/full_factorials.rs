@@ -1,8 +1,8 @@
 //! Full factorials: their resolution in every form, and their place above every other plan of their factors.
 
-use plan_tests::calls::{call, Given};
+use plan_tests::calls::call;
 use plan_tests::catalogues::entries;
-use plan_tests::check::plan::{Form, Question};
+use plan_tests::check::plan::{Form, Given, Question};
 use plan_tests::guarded::{plan_resolution_of_columns, plan_resolution_of_runs, plan_resolution_of_words};
 use plan_tests::random::Random;
 use plan_tests::samples::{columns, damaged, given, sample, Sample};
@@ -36,7 +36,7 @@ fn ranked(n: usize) -> Vec<(u32, usize)> {
     for g in n.saturating_sub(7)..n {
         let (whole, entries) = entries(n, g, 3, 1_000);
         assert!(whole, "{n} {g} 3");
-        list.extend(entries.into_iter().map(|columns| (resolution(&Given { n, g, form: Form::Columns, list: columns }), g)));
+        list.extend(entries.into_iter().map(|columns| (resolution(&Given::columns(n, g, &columns, 0)), g)));
     }
     list.sort();
     list
@@ -59,12 +59,12 @@ fn without_a_full_factorial_no_resolution_is_above_n() {
 }
 
 /// The answer of a call whose place is 0 before it, and the place after it.
-fn from_0(&Given { n, g, form, ref list }: &Given) -> (u8, u8) {
+fn from_0(&Given { n, g, form, ref list, signs }: &Given) -> (u8, u8) {
     let shorts: Vec<u16> = list.iter().map(|&x| x as u16).collect();
     let bytes: Vec<u8> = list.iter().map(|&x| x as u8).collect();
     let mut place = [0];
     let number = match form {
-        Form::Words => plan_resolution_of_words(n, g, &shorts, &mut place),
+        Form::Words => plan_resolution_of_words(n, g, &shorts, signs as u16, &mut place),
         Form::Columns => plan_resolution_of_columns(n, g, &bytes, &mut place),
         Form::Runs => plan_resolution_of_runs(n, g, &shorts, &mut place),
     };

@@ -2,8 +2,7 @@
 //! calls on run tables: here of eight factors, of which the first seven are basic and the eighth has the column. Run j then has the basic factors at the
 //! bits of j low.
 
-use plan_tests::calls::Given;
-use plan_tests::check::plan::{Form, Question};
+use plan_tests::check::plan::{plan_bytes, Form, Given, Question};
 use plan_tests::check::runs::runs_of_columns;
 use plan_tests::compare::{compare, Lending, Tally};
 use plan_tests::guarded::plan_columns_of_runs;
@@ -24,13 +23,13 @@ fn table(column: u32) -> Vec<u32> {
 }
 
 fn given(list: Vec<u32>) -> Given {
-    Given { n: N, g: G, form: Form::Runs, list }
+    Given::runs(N, G, &list)
 }
 
 /// The call's answer and its list, which has zeros before it.
 fn columns_of_runs(list: &[u32]) -> (u8, Vec<u32>) {
     let runs: Vec<u16> = list.iter().map(|&run| run as u16).collect();
-    let mut places = [0; N];
+    let mut places = [0; N + 2];
     let number = plan_columns_of_runs(N, G, &runs, &mut places);
     (number, places.iter().map(|&column| column.into()).collect())
 }
@@ -42,7 +41,7 @@ fn every_run_and_every_column_of_7_basic_factors_share_what_the_checking_program
     for column in 0..1 << M {
         let mut runs = table(column);
         // column 0 is a word of one letter, a basic factor's column one of two
-        let expected = if column.count_ones() < 2 { (7, vec![0; N]) } else { (0, columns(column)) };
+        let expected = if column.count_ones() < 2 { (7, vec![0; N + 2]) } else { (0, plan_bytes(&columns(column), 0)) };
         assert_eq!(columns_of_runs(&runs), expected, "column {column}");
         compare(&given(runs.clone()), Lending::Every, &mut tally);
         let switched = random.below(1 << N) as u32;

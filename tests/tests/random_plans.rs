@@ -1,11 +1,12 @@
 //! Random plans of up to 16 factors, good and damaged, from fixed seeds.
 
-use plan_tests::calls::{call, Given};
-use plan_tests::check::plan::{Form, Question};
+use plan_tests::calls::call;
+use plan_tests::check::plan::{plan_bytes, Form, Given, Plan, Question};
 use plan_tests::check::refusals::accepted;
 use plan_tests::compare::{compare, Lending, Tally, ANSWERS};
 use plan_tests::random::Random;
-use plan_tests::samples::{damaged, given, sample, short_sample, Sample};
+use plan_tests::samples::{any_mask, any_signs, damaged, given, sample, short_sample};
+use std::collections::BTreeSet;
 
 const FORMS: [Form; 3] = [Form::Words, Form::Columns, Form::Runs];
 
@@ -16,13 +17,31 @@ fn answered(given: &Given, question: Question, places: usize) -> Vec<u32> {
     outcome.result(places)
 }
 
-/// The answer of the checking program.
-fn expected(given: &Given, question: Question) -> Vec<u32> {
-    accepted(given.n, given.g, given.form, &given.list).unwrap_or_else(|number| panic!("{given:?} refused under {number}")).answer(question)
+/// The plan that the checking program has.
+fn expected(given: &Given) -> Plan {
+    accepted(given).unwrap_or_else(|number| panic!("{given:?} refused under {number}"))
 }
 
-fn in_form(plan: &Sample, form: Form, list: Vec<u32>) -> Given {
-    Given { n: plan.n, g: plan.n - plan.m, form, list }
+/// The plan that the library gives by columns: a plan in bytes.
+fn by_columns(given: &Given) -> Given {
+    Given { form: Form::Columns, list: answered(given, Question::Columns, given.n + 2), signs: 0, ..*given }
+}
+
+/// The words that the library gives, with their signs.
+fn by_words(given: &Given) -> Given {
+    let outcome = call(given, Question::Words, given.g);
+    assert_eq!(outcome.answer, 0, "words of {given:?}");
+    Given { form: Form::Words, list: outcome.result(given.g), signs: outcome.signs, ..*given }
+}
+
+/// The runs that the library gives.
+fn by_runs(given: &Given) -> Given {
+    Given { form: Form::Runs, list: answered(given, Question::Runs, 1 << (given.n - given.g)), signs: 0, ..*given }
+}
+
+/// The set of runs of a list.
+fn runs(given: &Given) -> BTreeSet<u32> {
+    expected(given).runs.into_iter().collect()
 }
 
 #[test]
@@ -69,7 +88,7 @@ fn plans_with_a_zero_or_repeated_column_are_refused_under_7_in_every_form() {
         let Some(short) = short_sample(&mut random, &plan) else { continue };
         for form in FORMS {
             let given = given(&mut random, &short, form);
-            assert_eq!(accepted(given.n, given.g, form, &given.list).err(), Some(7), "{given:?}");
+            assert_eq!(accepted(&given).err(), Some(7), "{given:?}");
             compare(&given, Lending::Every, &mut tally);
         }
     }
@@ -83,15 +102,17 @@ fn random_lists_of_numbers_are_answered_as_defined() {
     for _ in 0..3000 {
         let n = random.between(1, 16);
         let g = random.between(n.saturating_sub(7), n - 1);
-        let words = (0..g).map(|_| random.below(1 << n) as u32).collect();
-        compare(&Given { n, g, form: Form::Words, list: words }, Lending::AnyOne, &mut tally);
-        let columns = (0..n).map(|_| random.below(1 << (n - g)) as u32).collect();
-        compare(&Given { n, g, form: Form::Columns, list: columns }, Lending::AnyOne, &mut tally);
-        let runs = (0..1 << (n - g)).map(|_| random.below(1 << n) as u32).collect();
-        compare(&Given { n, g, form: Form::Runs, list: runs }, Lending::AnyOne, &mut tally);
+        let words: Vec<u32> = (0..g).map(|_| random.below(1 << n) as u32).collect();
+        let signs = [any_signs(&mut random, g), random.below(1 << 16) as u32][random.below(4) / 3];
+        compare(&Given::words(n, g, &words, signs), Lending::AnyOne, &mut tally);
+        let columns: Vec<u32> = (0..n).map(|_| random.below(1 << (n - g)) as u32).collect();
+        let mask = [any_mask(&mut random, &columns), random.below(1 << 16) as u32][random.below(4) / 3];
+        compare(&Given::columns(n, g, &columns, mask), Lending::AnyOne, &mut tally);
+        let runs: Vec<u32> = (0..1 << (n - g)).map(|_| random.below(1 << n) as u32).collect();
+        compare(&Given::runs(n, g, &runs), Lending::AnyOne, &mut tally);
     }
-    tally.assert_reached(Form::Words, &[0, 6, 7]);
-    tally.assert_reached(Form::Columns, &[0, 6, 7]);
+    tally.assert_reached(Form::Words, &[0, 5, 6, 7]);
+    tally.assert_reached(Form::Columns, &[0, 5, 6, 7]);
     tally.assert_reached(Form::Runs, &[6]);
 }
 
@@ -126,49 +147,68 @@ fn patterns_sum_to_2_to_the_g_less_1_and_distance_counts_to_the_runs() {
 }
 
 #[test]
-fn words_to_columns_to_words_gives_the_reduced_list_of_the_same_plan() {
+fn words_to_columns_to_words_gives_the_reduced_list_with_its_signs_of_the_same_set_of_runs() {
     let mut random = Random::new(0x0bad_cafe_0bad_cafe);
     for _ in 0..300 {
         let plan = sample(&mut random);
         let words = given(&mut random, &plan, Form::Words);
-        let columns = in_form(&plan, Form::Columns, answered(&words, Question::Columns, plan.n));
-        assert_eq!(answered(&columns, Question::Words, words.g), expected(&words, Question::Words), "from {words:?} by {columns:?}");
+        let columns = by_columns(&words);
+        let back = by_words(&columns);
+        let known = expected(&words);
+        assert_eq!((back.list.clone(), back.signs), (known.answer(Question::Words), known.signs()), "from {words:?} by {columns:?}");
+        assert_eq!((runs(&columns), runs(&back)), (runs(&words), runs(&words)), "from {words:?} by {columns:?}");
+        assert_eq!(by_columns(&back), columns, "from {words:?} by {back:?}");
     }
 }
 
 #[test]
-fn columns_to_words_to_columns_gives_the_standard_columns_of_the_same_plan() {
+fn columns_to_words_to_columns_gives_the_standard_columns_and_the_mask_of_the_same_set_of_runs() {
     let mut random = Random::new(0x5eed_5eed_5eed_5eed);
     for _ in 0..300 {
         let plan = sample(&mut random);
         let columns = given(&mut random, &plan, Form::Columns);
-        let words = in_form(&plan, Form::Words, answered(&columns, Question::Words, columns.g));
-        assert_eq!(answered(&words, Question::Columns, plan.n), expected(&columns, Question::Columns), "from {columns:?} by {words:?}");
+        let words = by_words(&columns);
+        let back = by_columns(&words);
+        let known = expected(&columns);
+        assert_eq!(back.list, plan_bytes(&known.standard(), known.mask()), "from {columns:?} by {words:?}");
+        assert_eq!((runs(&words), runs(&back)), (runs(&columns), runs(&columns)), "from {columns:?} by {words:?}");
     }
 }
 
 #[test]
-fn columns_to_runs_to_columns_gives_the_standard_columns_of_the_same_plan() {
+fn columns_to_runs_to_columns_gives_the_standard_columns_and_the_mask_of_the_same_set_of_runs() {
     let mut random = Random::new(0x7777_1111_7777_1111);
     for _ in 0..300 {
         let plan = sample(&mut random);
         let columns = given(&mut random, &plan, Form::Columns);
-        let runs = in_form(&plan, Form::Runs, answered(&columns, Question::Runs, 1 << plan.m));
-        assert_eq!(answered(&runs, Question::Columns, plan.n), expected(&columns, Question::Columns), "from {columns:?} by {runs:?}");
+        let table = by_runs(&columns);
+        let back = by_columns(&table);
+        let known = expected(&columns);
+        assert_eq!(back.list, plan_bytes(&known.standard(), known.mask()), "from {columns:?} by {table:?}");
+        assert_eq!((runs(&table), runs(&back)), (runs(&columns), runs(&columns)), "from {columns:?} by {table:?}");
     }
 }
 
 #[test]
-fn runs_to_columns_to_runs_gives_the_same_runs_but_for_switched_levels() {
+fn runs_to_columns_to_runs_gives_the_same_set_of_runs() {
     let mut random = Random::new(0x3141_5926_5358_9793);
     for _ in 0..300 {
         let plan = sample(&mut random);
         let table = given(&mut random, &plan, Form::Runs);
-        let columns = in_form(&plan, Form::Columns, answered(&table, Question::Columns, plan.n));
-        let mut back = answered(&columns, Question::Runs, 1 << plan.m);
-        let mut switched: Vec<u32> = table.list.iter().map(|run| run ^ table.list[0]).collect();
-        back.sort();
-        switched.sort();
-        assert_eq!(back, switched, "from {table:?} by {columns:?}");
+        let columns = by_columns(&table);
+        let back = by_runs(&columns);
+        assert_eq!(runs(&back), table.list.iter().copied().collect(), "from {table:?} by {columns:?}");
+    }
+}
+
+#[test]
+fn words_to_runs_gives_the_runs_of_the_words_standard_columns() {
+    let mut random = Random::new(0x2718_2818_2845_9045);
+    for _ in 0..300 {
+        let plan = sample(&mut random);
+        let words = given(&mut random, &plan, Form::Words);
+        let table = by_runs(&words);
+        assert_eq!(table, by_runs(&by_columns(&words)), "from {words:?}");
+        assert_eq!(runs(&table), runs(&words), "from {words:?}");
     }
 }

@@ -4,6 +4,7 @@ use plan_tests::book_samples::{drawn, some_of};
 use plan_tests::books::joined;
 use plan_tests::catalogues::{entries, every_smallest_form, with_resolution, Entries};
 use plan_tests::check::book::{book, header, MOST_PLANS};
+use plan_tests::check::plan::stride;
 use plan_tests::check::refusals::of_sizes;
 use plan_tests::guarded::plan_write_book;
 use plan_tests::random::Random;
@@ -52,14 +53,16 @@ fn every_catalogue(most: usize) -> Vec<([usize; 3], Entries)> {
 #[test]
 fn the_examples_of_the_request() {
     let two = hex(TWO_ENTRIES);
-    compare_taken(&two, 8, [4, 1, 3], &[1, 2, 3, 4, 1, 2, 4, 7]);
+    compare_taken(&two, 12, [4, 1, 3], &[1, 2, 3, 4, 0, 0, 1, 2, 4, 7, 0, 0]);
+    compare_refused(&two, 11, 8);
+    compare_refused(&two, 8, 8);
     compare_refused(&two, 4, 8);
-    compare_refused(&[&two[..], &[0]].concat(), 8, 10);
-    compare_refused(&hex("0111010300"), 8, 10);
-    compare_refused(&hex("011101030000"), 8, 1);
-    compare_refused(&hex("0104010301002502"), 8, 11);
-    compare_refused(&hex("01040104010024010203044401000000"), 8, 12);
-    compare_refused(&[], 8, 10);
+    compare_refused(&[&two[..], &[0]].concat(), 12, 10);
+    compare_refused(&hex("0111010300"), 12, 10);
+    compare_refused(&hex("011101030000"), 12, 1);
+    compare_refused(&hex("0104010301002502"), 12, 11);
+    compare_refused(&hex("01040104010024010203044401000000"), 12, 12);
+    compare_refused(&[], 12, 10);
 }
 
 #[test]
@@ -67,11 +70,11 @@ fn the_first_byte_is_the_kind_of_the_header() {
     for kind in 0..=255 {
         let number = if kind == 0x01 { 10 } else { 11 };
         for more in 0..5 {
-            compare_refused(&[&[kind][..], &[0; 4][..more]].concat(), 8, number);
+            compare_refused(&[&[kind][..], &[0; 4][..more]].concat(), 12, number);
         }
         let mut book = hex(TWO_ENTRIES);
         book[0] = kind;
-        assert_eq!(compare_read(&book, 8), if kind == 0x01 { 0 } else { 11 });
+        assert_eq!(compare_read(&book, 12), if kind == 0x01 { 0 } else { 11 });
     }
 }
 
@@ -99,8 +102,9 @@ fn the_list_is_measured_by_the_header_before_any_entry_is_read() {
         for count in [1, 2, 255, 256, 257, MOST_PLANS] {
             for rest in [&[][..], &[0x20], &[0x20 + n as u8]] {
                 let book = [&header(n, g, 3, count), rest].concat();
-                compare_refused(&book, count * n - 1, 8);
-                compare_refused(&book, count * n, if rest == [0x20] { 11 } else { 10 });
+                compare_refused(&book, count * n, 8);
+                compare_refused(&book, count * stride(n) - 1, 8);
+                compare_refused(&book, count * stride(n), if rest == [0x20] { 11 } else { 10 });
             }
         }
     }
@@ -113,7 +117,7 @@ fn with_end(place: usize, end: &str) -> Vec<u8> {
 
 #[test]
 fn each_record_meets_its_kind_then_its_end_then_its_truth() {
-    let refused = |place: usize, end: &str, number: u8| compare_refused(&with_end(place, end), 8, number);
+    let refused = |place: usize, end: &str, number: u8| compare_refused(&with_end(place, end), 12, number);
     for entry in [6, 16] {
         let pattern = entry + 5;
         for (place, kinds) in [(entry, ["44", "25", "04", "01", "00"]), (pattern, ["24", "45", "04", "01", "00"])] {
@@ -149,7 +153,7 @@ fn columns_that_no_catalogue_has_are_untrue_and_not_5_to_7() {
     for (fault, columns) in untrue {
         let mut book = header(4, 1, 3, 1);
         book.extend(hex(&format!("24{columns}4401000000")));
-        assert_eq!(compare_read(&book, 4), 12, "{fault}");
+        assert_eq!(compare_read(&book, 6), 12, "{fault}");
     }
 }
 
@@ -157,16 +161,16 @@ fn columns_that_no_catalogue_has_are_untrue_and_not_5_to_7() {
 fn below_3_factors_a_pattern_is_its_kind_byte() {
     for r in 3..=16 {
         let (one, two) = ([0x01, 1, 0, r, 1, 0, 0x21, 1, 0x41], [0x01, 2, 0, r, 1, 0, 0x22, 1, 2, 0x42]);
-        compare_taken(&one, 1, [1, 0, r.into()], &[1]);
-        compare_taken(&two, 2, [2, 0, r.into()], &[1, 2]);
+        compare_taken(&one, 3, [1, 0, r.into()], &[1, 0, 0]);
+        compare_taken(&two, 4, [2, 0, r.into()], &[1, 2, 0, 0]);
         for longer in [[&one[..], &[0, 0]].concat(), [&two[..], &[0]].concat(), [&two[..], &[0x22]].concat()] {
-            compare_refused(&longer, 2, 10);
+            compare_refused(&longer, 4, 10);
         }
     }
-    compare_refused(&[0x01, 1, 0, 3, 1, 0, 0x21, 1, 0x42], 1, 11);
-    compare_refused(&[0x01, 1, 0, 3, 1, 0, 0x21, 2, 0x41], 1, 12);
-    compare_refused(&[0x01, 1, 0, 3, 2, 0, 0x21, 1, 0x41, 0x21, 1, 0x41], 2, 12);
-    compare_refused(&[0x01, 2, 0, 3, 1, 0, 0x22, 2, 1, 0x42], 2, 12);
+    compare_refused(&[0x01, 1, 0, 3, 1, 0, 0x21, 1, 0x42], 3, 11);
+    compare_refused(&[0x01, 1, 0, 3, 1, 0, 0x21, 2, 0x41], 3, 12);
+    compare_refused(&[0x01, 1, 0, 3, 2, 0, 0x21, 1, 0x41, 0x21, 1, 0x41], 6, 12);
+    compare_refused(&[0x01, 2, 0, 3, 1, 0, 0x22, 2, 1, 0x42], 4, 12);
 }
 
 #[test]
@@ -187,9 +191,9 @@ fn every_catalogue_of_up_to_8_factors_comes_back_and_is_written_to_the_same_byte
 fn every_book_that_is_cut_off_or_goes_on_is_refused_by_10() {
     for ([n, g, r], entries) in every_catalogue(7) {
         let book = book(n, g, r, &entries);
-        (0..book.len()).for_each(|count| compare_refused(&book[..count], entries.len() * n, 10));
+        (0..book.len()).for_each(|count| compare_refused(&book[..count], entries.len() * stride(n), 10));
         for byte in [0x00, 0x01, 0x20 + n as u8, 0x40 + n as u8, 0xff] {
-            compare_refused(&[&book[..], &[byte]].concat(), entries.len() * n, 10);
+            compare_refused(&[&book[..], &[byte]].concat(), entries.len() * stride(n), 10);
         }
         let again = [&book[..], &book[6..]].concat();
         assert_eq!(compare_read(&again, PLENTY), if entries.is_empty() { 0 } else { 10 });
@@ -223,7 +227,7 @@ fn of_two_changed_bytes_the_first_check_that_fails_answers() {
             for changed in values.iter().flat_map(|&one| values.map(|other| [one, other])) {
                 let mut book = whole.clone();
                 [book[first], book[second]] = changed;
-                seen.add(compare_read(&book, 12));
+                seen.add(compare_read(&book, 18));
             }
         }
     }
@@ -240,11 +244,11 @@ fn entries_in_any_order_are_taken_exactly_if_they_rise_strictly() {
             let list: Entries = places.iter().map(|&place| entries[place].clone()).collect();
             let book = book(n, g, r, &list);
             if places[0] < places[1] && places[1] < places[2] {
-                compare_taken(&book, 3 * n, [n, g, r], &joined(&list));
+                compare_taken(&book, 3 * stride(n), [n, g, r], &joined(&list));
             } else {
-                compare_refused(&book, 3 * n, 12);
+                compare_refused(&book, 3 * stride(n), 12);
             }
-            seen.add(compare_read(&book, 3 * n + 1));
+            seen.add(compare_read(&book, 3 * stride(n) + 1));
         }
     }
     seen.assert_reached(&[0, 12], 5);
@@ -261,10 +265,10 @@ fn every_list_of_columns_is_taken_exactly_if_the_catalogue_has_it() {
             let list = [columns];
             let book = book(n, n - m, 3, &list);
             if forms.contains(&list[0]) {
-                compare_taken(&book, n + 1, [n, n - m, 3], &joined(&list));
+                compare_taken(&book, stride(n) + 1, [n, n - m, 3], &joined(&list));
                 seen.add(0);
             } else {
-                compare_refused(&book, n + 1, 12);
+                compare_refused(&book, stride(n) + 1, 12);
                 seen.add(12);
             }
         }
@@ -278,7 +282,7 @@ fn an_entry_is_taken_for_every_r_up_to_its_resolution_and_a_full_factorial_for_a
         for form in every_smallest_form(n, m) {
             for r in 3..=16 {
                 let number = if with_resolution(&[form.clone()], r).is_empty() { 12 } else { 0 };
-                assert_eq!(compare_read(&book(n, n - m, r, &[form.clone()]), n), number, "{form:?} for R {r}");
+                assert_eq!(compare_read(&book(n, n - m, r, &[form.clone()]), stride(n)), number, "{form:?} for R {r}");
             }
         }
     }
@@ -315,7 +319,7 @@ fn damaged_books_of_every_size() {
             let some = some_of(&mut random, &entries, 4);
             let book = drawn(&mut random, n, n - g, r, &some);
             seen.add(compare_read(&book, PLENTY));
-            seen.add(compare_read(&book, some.len() * n));
+            seen.add(compare_read(&book, some.len() * stride(n)));
         }
     }
     seen.assert_reached(&ANSWERS, 50);

@@ -1,13 +1,13 @@
 //! The calls that C cannot make, on design records and with answers by value, through the program `records`.
 
-use plan_tests::calls::Given;
-use plan_tests::check::plan::Form;
-use plan_tests::check::runs::runs_of_columns;
+use plan_tests::check::columns::last_letters;
+use plan_tests::check::plan::{Form, Given};
+use plan_tests::check::runs::switched_runs;
 use plan_tests::check::smallest::smallest;
 use plan_tests::known::in_other_basics;
 use plan_tests::random::Random;
 use plan_tests::record_calls::*;
-use plan_tests::samples::{columns, damaged, given, sample, short_sample, Sample};
+use plan_tests::samples::{any_mask, columns, damaged, given, sample, short_sample, Sample};
 use std::collections::BTreeSet;
 
 /// The calls on a list, with the form of their plan.
@@ -26,9 +26,14 @@ const ON_RECORDS: [usize; 5] = [RUNS_OF_DESIGN, WORDS_OF_DESIGN, DISTANCES_OF_DE
 /// The largest number that the program reads.
 const LARGEST: usize = 65_535;
 
-/// The call on a list. Sizes that the program cannot read become the largest that it can.
+/// The call on a list, words with their signs. Sizes that the program cannot read become the largest that it can.
 fn on_list(which: usize, given: &Given) -> Call {
-    Call { which, n: given.n.min(LARGEST), g: given.g.min(LARGEST), k: 0, list: given.list.clone() }
+    Call { which, n: given.n.min(LARGEST), g: given.g.min(LARGEST), k: given.signs as usize, list: given.list.clone() }
+}
+
+/// The record of columns with any mask that they allow.
+fn any_record(random: &mut Random, m: usize, columns: &[u32]) -> Vec<u32> {
+    record(m, columns, any_mask(random, columns))
 }
 
 /// The call on a record, compared with `second` where it takes two, with k lent places.
@@ -51,25 +56,29 @@ fn on_plan(random: &mut Random, plan: &Sample) -> Vec<Call> {
     for which in ON_RECORDS {
         for k in [0, n - m, n, n + 1, n + 2].into_iter().flat_map(|k| [k, k.saturating_sub(1)]) {
             let second = if random.below(2) == 0 { same.clone() } else { columns(random, n, m) };
-            calls.push(on_record(which, (n, n - m), k, &record(m, &plan.columns), &record(m, &second)));
+            let [first, second] = [&plan.columns, &second].map(|columns| any_record(random, m, columns));
+            calls.push(on_record(which, (n, n - m), k, &first, &second));
         }
     }
     calls
 }
 
-/// The record of a plan damaged in one way: its sizes, its numbers, its counts, or a used place past N.
+/// The record of a plan damaged in one way: its sizes, its numbers, its counts, its mask, or a used place past N.
 fn damaged_record(random: &mut Random, plan: &Sample) -> ((usize, usize), Vec<u32>) {
     let &Sample { n, m, .. } = plan;
-    let mut record = record(m, &plan.columns);
-    match random.below(6) {
+    let mut record = any_record(random, m, &plan.columns);
+    match random.below(8) {
+        6 => record[RECORD - 1] ^= 1 << random.below(16),
+        7 => record[RECORD - 1] = random.below(1 << 16) as u32,
         0 => record[random.below(2)] = random.below(20) as u32,
         1 => record[2 + random.below(16)] ^= 1 << random.below(8),
         2 => record[2 + n.min(15)..].iter_mut().for_each(|place| *place = 1),
         _ => {
             let good = given(random, plan, Form::Columns);
             let mut other = damaged(random, &good);
-            other.list.resize(RECORD - 2, 0);
-            record[2..].copy_from_slice(&other.list);
+            other.list.truncate(n);
+            other.list.resize(RECORD - 3, 0);
+            record[2..RECORD - 1].copy_from_slice(&other.list);
             return ((other.n.min(LARGEST), other.g.min(LARGEST)), record);
         }
     }
@@ -135,7 +144,10 @@ fn damaged_lists_and_records_are_refused_under_the_lowest_number_and_every_numbe
         }
         for which in ON_RECORDS {
             let (sizes, first) = damaged_record(&mut random, &plan);
-            let second = if random.below(2) == 0 { record(plan.m, &plan.columns) } else { damaged_record(&mut random, &plan).1 };
+            let second = match random.below(2) {
+                0 => any_record(&mut random, plan.m, &plan.columns),
+                _ => damaged_record(&mut random, &plan).1,
+            };
             let pair = if random.below(2) == 0 { [first, second] } else { [second, first] };
             calls.push(on_record(which, sizes, random.below(19), &pair[0], &pair[1]));
         }
@@ -179,11 +191,12 @@ fn a_run_table_has_128_places_the_unused_ones_zero() {
         let n = 16.min((1 << m) - 1);
         let plan = Sample { n, m, columns: columns(&mut random, n, m) };
         let words = given(&mut random, &plan, Form::Words);
-        let of_design = on_record(RUNS_OF_DESIGN, (n, n - m), 0, &record(m, &plan.columns), &[]);
+        let mask = last_letters(&plan.columns);
+        let of_design = on_record(RUNS_OF_DESIGN, (n, n - m), 0, &record(m, &plan.columns, mask), &[]);
         let calls = [of_design, on_list(RUNS_OF_WORDS, &words)];
         compare_calls(&calls);
         let runs = printed(&calls).iter().map(|line| numbers_after(line, "runs")).collect::<Vec<_>>();
-        assert_eq!(runs[0][..1 << m], runs_of_columns(m, &plan.columns));
+        assert_eq!(runs[0][..1 << m], switched_runs(m, &plan.columns, mask));
         for runs in runs {
             assert_eq!(runs.len(), RUNS);
             assert!(runs[1 << m..].iter().all(|&run| run == 0), "{runs:?}");
@@ -205,6 +218,8 @@ fn a_design_record_has_its_counts_and_sixteen_columns_those_past_n_zero() {
             let columns = numbers_after(&line, "columns");
             assert_eq!(columns.len(), 16);
             assert!(columns[plan.n..].iter().all(|&column| column == 0), "{line}");
+            let mask = numbers_after(&line, "mask");
+            assert!(mask.len() == 1 && mask[0] & !last_letters(&columns[..plan.n]) == 0, "{line}");
         }
     }
 }
@@ -239,11 +254,11 @@ fn a_record_that_is_not_n_and_m_is_refused_under_4() {
         let mut calls = Vec::new();
         for factors in (0..20).chain([255]) {
             for basics in (0..20).chain([255]) {
-                let mut other = record(4, &columns);
+                let mut other = record(4, &columns, 0);
                 other[..2].copy_from_slice(&[factors, basics]);
-                calls.push(on_record(which, (5, 1), 16, &other, &record(4, &columns)));
+                calls.push(on_record(which, (5, 1), 16, &other, &record(4, &columns, 0)));
                 if which == COMPARE_DESIGNS {
-                    calls.push(on_record(which, (5, 1), 16, &record(4, &columns), &other));
+                    calls.push(on_record(which, (5, 1), 16, &record(4, &columns, 0), &other));
                 }
             }
         }
@@ -251,6 +266,31 @@ fn a_record_that_is_not_n_and_m_is_refused_under_4() {
         for (call, answer) in calls.iter().zip(answers) {
             let right = call.list.chunks(RECORD).filter(|record| record.len() == RECORD).all(|record| record[..2] == [5, 4]);
             assert_eq!(answer.1, if right { 0 } else { 4 }, "{call:?}");
+        }
+    }
+}
+
+/// Every bit of the mask, with plans that are in order, of low rank, or with short words: a factor is the last letter of a word if its column is
+/// in the span of those before it.
+#[test]
+fn a_mask_bit_at_a_factor_that_is_the_last_letter_of_no_word_is_refused_under_5() {
+    let plans: [(usize, &[u32], u32); 5] = [
+        (2, &[1, 2, 3], 0),
+        (4, &[1, 2, 4, 7, 8], 0),
+        (3, &[1, 2, 1, 2], 6),
+        (3, &[1, 2, 4, 0], 7),
+        (6, &[1, 2, 4, 7, 8, 11, 16, 32, 61], 0),
+    ];
+    for (m, columns, number) in plans {
+        let n = columns.len();
+        for which in ON_RECORDS {
+            let calls: Vec<Call> =
+                (0..16).map(|bit| on_record(which, (n, n - m), 16, &record(m, columns, 1 << bit), &record(m, columns, 0))).collect();
+            for (bit, (name, found)) in compare_calls(&calls).into_iter().enumerate() {
+                let expected = if last_letters(columns) >> bit & 1 == 0 { 5 } else { number };
+                assert!(name == "same" || found == expected, "bit {bit} of {columns:?}: {name} {found}");
+                assert_eq!(name == "same", which == COMPARE_DESIGNS && expected == 0, "bit {bit} of {columns:?}");
+            }
         }
     }
 }
@@ -263,10 +303,10 @@ fn a_used_place_past_n_is_refused_under_5() {
         let mut calls = Vec::new();
         for place in n..16 {
             for value in [1, 3, 64, 255] {
-                let mut used = record(m, columns);
+                let mut used = record(m, columns, 0);
                 used[2 + place] = value;
-                calls.extend(ON_RECORDS.map(|which| on_record(which, (n, n - m), 16, &used, &record(m, columns))));
-                calls.push(on_record(COMPARE_DESIGNS, (n, n - m), 16, &record(m, columns), &used));
+                calls.extend(ON_RECORDS.map(|which| on_record(which, (n, n - m), 16, &used, &record(m, columns, 0))));
+                calls.push(on_record(COMPARE_DESIGNS, (n, n - m), 16, &record(m, columns, 0), &used));
             }
         }
         assert!(compare_calls(&calls).iter().all(|answer| answer.1 == 5));
@@ -284,7 +324,7 @@ fn the_lowest_of_the_plans_number_the_other_arguments_and_the_lent_lists_is_answ
     for (own, columns) in &refused {
         for other in 0..=8 {
             for (k, lent) in [(5, 0), (4, 8)] {
-                calls.push(Call { which: FORM_OF_DESIGN, n: 5, g: 1, k, list: [record(4, columns), vec![other]].concat() });
+                calls.push(Call { which: FORM_OF_DESIGN, n: 5, g: 1, k, list: [record(4, columns, 0), vec![other]].concat() });
                 expected.push([*own, other, lent].into_iter().filter(|&number| number != 0).min().unwrap_or(0));
             }
         }

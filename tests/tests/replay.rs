@@ -59,17 +59,17 @@ fn recorded(calls: u64, make: impl FnOnce()) -> Vec<u8> {
     [taken(), end(calls)].concat()
 }
 
-/// A call that reads two lists of one word, though it takes lists of two, and one that fills a list of two places, though the catalogue has
-/// one entry of three columns: they are refused. With lists one element wider, they read or write the element beside.
+/// A call that reads two lists of one word, though it takes lists of two, and one that fills a list of four places, though the catalogue has
+/// one entry of five bytes: they are refused. With lists one element wider, they read or write the element beside.
 fn short_by_one() -> [Vec<u8>; 2] {
     let reads = recorded(1, || assert_eq!(plan_aberration_refusal(5, 2, &[0b111], &[0b111]), 4));
-    let fills = recorded(1, || assert_eq!(plan_catalogue(3, 1, 3, &mut [0; 2]).number, 9));
+    let fills = recorded(1, || assert_eq!(plan_catalogue(3, 1, 3, &mut [0; 4]).number, 9));
     [reads, fills]
 }
 
 #[test]
 fn valgrind_notices_a_call_that_reads_or_writes_past_either_end_of_a_list() {
-    for (record, access) in short_by_one().iter().zip(["Invalid read of size 2", "Invalid write of size 1"]) {
+    for (record, access) in short_by_one().iter().zip(["Invalid read of size 2", "Invalid write of size"]) {
         for (arguments, status) in [(&[][..], 0), (&["--before", "1"], ERRORS), (&["--after", "1"], ERRORS)] {
             let found = under_valgrind(arguments, |to| to.write_all(record));
             let errors = String::from_utf8_lossy(&found.stderr);
@@ -89,13 +89,14 @@ fn smallest_form(places: usize) -> Vec<u8> {
     recorded(1, || {
         let (mut smallest, mut witness) = (vec![0xaa; places], vec![0xbb; places]);
         let runs = [0b000, 0b011, 0b101, 0b110];
-        assert_eq!(plan_smallest_of_runs(3, 1, &runs, &[1, 2, 3], &mut smallest, &mut witness).number, if places < 3 { 8 } else { 0 });
+        let answer = plan_smallest_of_runs(3, 1, &runs, &[1, 2, 3, 0, 0], &mut smallest, &mut witness);
+        assert_eq!(answer.number, if places < 5 { 8 } else { 0 });
     })
 }
 
 #[test]
 fn a_record_with_any_other_answer_or_list_is_refused() {
-    for places in [0, 2, 3, 5] {
+    for places in [0, 2, 4, 5, 7] {
         let whole = smallest_form(places);
         assert!(agrees(&whole));
         let last = whole.len() - end(1).len();
@@ -114,7 +115,7 @@ fn a_record_that_is_cut_off_or_goes_on_is_refused() {
     let whole = recorded(2, || {
         let table = [0b00, 0b01, 0b10, 0b11];
         plan_check_witness(2, 0, &table, &table, &[0, 1], 0);
-        assert_eq!(plan_catalogue(3, 1, 3, &mut [0; 3]).count, 1);
+        assert_eq!(plan_catalogue(3, 1, 3, &mut [0; 5]).count, 1);
     });
     assert!(agrees(&whole));
     for count in 0..whole.len() {

@@ -1,12 +1,13 @@
 //! Every pair of plans of a size, for up to seven factors, compared as columns and as run tables.
 
-use plan_tests::check::plan::Form;
+use plan_tests::check::plan::{plan_bytes, Form};
 use plan_tests::check::renamings::{differences, every_image};
 use plan_tests::check::runs::runs_of_columns;
 use plan_tests::compare_pairs::{compare_known, compare_pair, expected, Counts};
 use plan_tests::known::{every_plan, in_other_basics, Known};
 use plan_tests::pairs::Pair;
 use plan_tests::random::Random;
+use plan_tests::samples::any_mask;
 use std::collections::HashSet;
 
 /// Every plan of a size. The label is that of the first plan from which some renaming reaches it: every renaming is tried.
@@ -49,8 +50,11 @@ fn every_pair_of_up_to_6_factors_is_compared_as_defined_in_both_forms() {
         for first in &plans {
             for second in &plans {
                 let expected = expected(first, second);
-                let columns = Pair { n, g: n - m, form: Form::Columns, first: first.columns.clone(), second: second.columns.clone() };
-                compare_pair(&columns, expected, n, &mut counts);
+                let [one, two] = [first, second].map(|plan| plan_bytes(&plan.columns, any_mask(&mut random, &plan.columns)));
+                let switched = Pair { n, g: n - m, form: Form::Columns, first: one, second: two };
+                compare_pair(&switched, expected, n, &mut counts);
+                let [one, two] = [first, second].map(|plan| plan_bytes(&plan.columns, 0));
+                compare_pair(&Pair { first: one, second: two, ..switched }, expected, n, &mut counts);
                 let runs = Pair { n, g: n - m, form: Form::Runs, first: first.table(&mut random), second: second.table(&mut random) };
                 compare_pair(&runs, expected, n + 1, &mut counts);
             }

@@ -1,7 +1,7 @@
 //! Every list of small sizes: words, columns and run tables, in order and out of it.
 
-use plan_tests::calls::Given;
-use plan_tests::check::plan::Form;
+use plan_tests::check::columns::last_letters;
+use plan_tests::check::plan::{plan_bytes, Form, Given};
 use plan_tests::compare::{compare, Lending, Tally};
 use plan_tests::random::Random;
 
@@ -45,8 +45,35 @@ fn below_and_past(bound: u32, bits: u32) -> Vec<u32> {
     (0..=bound).chain([(1 << bits) - 1]).collect()
 }
 
+/// A list as a call takes it, words with plus signs.
 fn compare_list(n: usize, g: usize, form: Form, list: &[u32], lending: Lending, tally: &mut Tally) {
-    compare(&Given { n, g, form, list: list.to_vec() }, lending, tally);
+    compare(&Given { n, g, form, list: list.to_vec(), signs: 0 }, lending, tally);
+}
+
+/// Words with all signs, those of no word too, and some that are far from any word.
+fn compare_words(n: usize, g: usize, words: &[u32], lending: Lending, tally: &mut Tally) {
+    for signs in (0..2 << g).chain([1 << 8, 1 << 15]) {
+        compare(&Given::words(n, g, words, signs), lending, tally);
+    }
+}
+
+/// Columns with all masks of n + 1 bits, barred ones too, and some that are far from any factor.
+fn compare_columns(n: usize, g: usize, columns: &[u32], lending: Lending, tally: &mut Tally) {
+    for mask in (0..2 << n).chain([1 << 8, 1 << 15]) {
+        compare(&Given::columns(n, g, columns, mask), lending, tally);
+    }
+}
+
+#[test]
+fn every_list_of_words_of_up_to_4_factors_with_all_signs_is_answered_as_defined() {
+    let mut tally = Tally::new();
+    for n in 1..=4 {
+        for g in 0..n {
+            let visit = &mut |list: &[u32]| compare_words(n, g, list, Lending::AnyOne, &mut tally);
+            every_list(&below_and_past(1 << n, 16), g, visit);
+        }
+    }
+    tally.assert_reached(Form::Words, &[0, 5, 6, 7, 8]);
 }
 
 #[test]
@@ -57,6 +84,16 @@ fn every_list_of_words_of_up_to_4_factors_is_answered_as_defined() {
             let visit = &mut |list: &[u32]| compare_list(n, g, Form::Words, list, Lending::Every, &mut tally);
             every_list(&below_and_past(1 << n, 16), g, visit);
         }
+    }
+    tally.assert_reached(Form::Words, &[0, 5, 6, 7, 8]);
+}
+
+#[test]
+fn every_list_of_up_to_3_words_of_5_factors_with_all_signs_is_answered_as_defined() {
+    let mut tally = Tally::new();
+    for g in 0..=3 {
+        let visit = &mut |list: &[u32]| compare_words(5, g, list, Lending::AnyOne, &mut tally);
+        every_list(&below(1 << 5), g, visit);
     }
     tally.assert_reached(Form::Words, &[0, 5, 6, 7, 8]);
 }
@@ -88,9 +125,45 @@ fn every_list_of_columns_of_up_to_4_factors_is_answered_as_defined() {
     let mut tally = Tally::new();
     for n in 1..=4 {
         for g in 0..n {
-            let visit = &mut |list: &[u32]| compare_list(n, g, Form::Columns, list, Lending::Every, &mut tally);
+            let visit = &mut |list: &[u32]| compare_list(n, g, Form::Columns, &plan_bytes(list, 0), Lending::Every, &mut tally);
             every_list(&below_and_past(1 << (n - g), 8), n, visit);
         }
+    }
+    tally.assert_reached(Form::Columns, &[0, 5, 6, 7, 8]);
+}
+
+#[test]
+fn every_list_of_columns_of_up_to_3_factors_with_every_mask_and_lists_of_every_kind_is_answered_as_defined() {
+    let mut tally = Tally::new();
+    for n in 1..=3 {
+        for g in 0..n {
+            let visit = &mut |list: &[u32]| compare_columns(n, g, list, Lending::Every, &mut tally);
+            every_list(&below_and_past(1 << (n - g), 8), n, visit);
+        }
+    }
+    tally.assert_reached(Form::Columns, &[0, 5, 6, 7, 8]);
+}
+
+#[test]
+fn every_list_of_columns_of_4_factors_with_every_mask_is_answered_as_defined() {
+    let mut tally = Tally::new();
+    for g in 0..4 {
+        let visit = &mut |list: &[u32]| compare_columns(4, g, list, Lending::AnyOne, &mut tally);
+        every_list(&below(1 << (4 - g)), 4, visit);
+    }
+    tally.assert_reached(Form::Columns, &[0, 5, 6, 7, 8]);
+}
+
+#[test]
+fn every_list_of_columns_of_5_factors_with_up_to_3_basic_and_every_mask_is_answered_as_defined() {
+    let mut tally = Tally::new();
+    for m in 1..=3 {
+        let visit = &mut |list: &[u32]| {
+            for mask in 0..1 << 5 {
+                compare(&Given::columns(5, 5 - m, list, mask), Lending::AnyOne, &mut tally);
+            }
+        };
+        every_list(&below(1 << m), 5, visit);
     }
     tally.assert_reached(Form::Columns, &[0, 5, 6, 7, 8]);
 }
@@ -99,10 +172,14 @@ fn every_list_of_columns_of_up_to_4_factors_is_answered_as_defined() {
 fn every_list_of_columns_of_5_factors_with_up_to_4_basic_is_answered_as_defined() {
     let mut tally = Tally::new();
     for m in 1..=3 {
-        let visit = &mut |list: &[u32]| compare_list(5, 5 - m, Form::Columns, list, Lending::AnyOne, &mut tally);
+        let visit = &mut |list: &[u32]| compare_list(5, 5 - m, Form::Columns, &plan_bytes(list, 0), Lending::AnyOne, &mut tally);
         every_list(&below_and_past(1 << m, 8), 5, visit);
     }
-    let visit = &mut |list: &[u32]| compare_list(5, 1, Form::Columns, list, Lending::AnyOne, &mut tally);
+    // all that may be switched is so in one of three
+    let visit = &mut |list: &[u32]| {
+        let mask = if list.iter().sum::<u32>() % 3 == 0 { last_letters(list) } else { 0 };
+        compare(&Given::columns(5, 1, list, mask), Lending::AnyOne, &mut tally);
+    };
     every_list(&below(1 << 4), 5, visit);
     tally.assert_reached(Form::Columns, &[0, 5, 6, 7, 8]);
 }
@@ -111,7 +188,7 @@ fn every_list_of_columns_of_5_factors_with_up_to_4_basic_is_answered_as_defined(
 fn every_list_of_columns_of_6_factors_with_up_to_3_basic_is_answered_as_defined() {
     let mut tally = Tally::new();
     for m in 1..=3 {
-        let visit = &mut |list: &[u32]| compare_list(6, 6 - m, Form::Columns, list, Lending::AnyOne, &mut tally);
+        let visit = &mut |list: &[u32]| compare_list(6, 6 - m, Form::Columns, &plan_bytes(list, 0), Lending::AnyOne, &mut tally);
         let columns: Vec<u32> = (0..=1 << m).collect();
         every_list(&columns, 6, visit);
     }
@@ -189,6 +266,8 @@ fn lists_of_every_wrong_count_are_refused_under_4() {
             for count in 0..140 {
                 compare_list(n, g, form, &vec![1; count], Lending::Every, &mut tally);
                 compare_list(n, g, form, &vec![0xff; count], Lending::Every, &mut tally);
+                let unswitched = [vec![1; count.saturating_sub(2)], vec![0; count.min(2)]].concat();
+                compare_list(n, g, form, &unswitched, Lending::Every, &mut tally);
             }
         }
         tally.assert_reached(form, &[4, 6]);
@@ -205,6 +284,7 @@ fn every_size_is_refused_under_1_or_2_as_defined() {
             for form in [Form::Words, Form::Columns, Form::Runs] {
                 compare_list(n, g, form, &[], Lending::Every, &mut tally);
                 compare_list(n, g, form, &[1, 2, 4, 7], Lending::Every, &mut tally);
+                compare_list(n, g, form, &[1, 2, 4, 7, 0, 0], Lending::AnyOne, &mut tally);
             }
         }
     }

@@ -168,7 +168,7 @@ fn damaged_tables_are_refused_under_the_lowest_number_whatever_the_names() {
         let lists = [names.clone(), vec![], vec![255; good.n], names.repeat(3)];
         for (first, second) in [(&one, &good), (&good, &one), (&one, &two)] {
             let pair = Pair { n: one.n, g: one.g, form: Form::Runs, first: first.list.clone(), second: second.list.clone() };
-            let number = |list: &[u32]| accepted(pair.n, pair.g, Form::Runs, list).err().unwrap_or(0);
+            let number = |list: &[u32]| accepted(&pair.given(list)).err().unwrap_or(0);
             let refusal = lowest(number(&pair.first), number(&pair.second));
             for names in &lists {
                 let mask = random.below(1 << 16) as u32;

@@ -1,4 +1,4 @@
-// The one of two lists of words whose plan has less aberration.
+// The one of two lists of words, taken without signs, whose plan has less aberration.
 ghost use Prim.Native.Nat.{_-_};
 ghost use Rattle.gf2.specs.Answers.{Tells};
 ghost use Rattle.regular.specs.Columns.{planOf};
@@ -23,19 +23,19 @@ fn second_less(n: usize, g: usize, first: [u8; FACTORS], second: [u8; FACTORS]) 
 
 // The refusal's number, 0 if both lists are accepted.
 pub fn aberration_refusal(n: usize, g: usize, first: &[u16], second: &[u16]) -> u8
-    ensures { λ r. ⌜ Lowest (either (ofWords n g (now (first .entry)) .faults) (ofWords n g (now (second .entry)) .faults)) r ⌝ }
+    ensures { λ r. ⌜ Lowest (either (ofWords n g (now (first .entry)) 0 .faults) (ofWords n g (now (second .entry)) 0 .faults)) r ⌝ }
 {
-    let a = admission::admit_words(n, g, first);
-    let b = admission::admit_words(n, g, second);
+    let a = admission::admit_words(n, g, first, 0);
+    let b = admission::admit_words(n, g, second, 0);
     lower_of(a.number, b.number)
 }
 
 // Which list's plan has less aberration: 2 the second, 1 the first, also if neither has; 0 if one is refused.
 pub fn choice(n: usize, g: usize, first: &[u16], second: &[u16]) -> u8
-    ensures { λ r. ⌜ ChoosesLess n (n - g) (ofWords n g (now (first .entry))) (ofWords n g (now (second .entry))) r ⌝ }
+    ensures { λ r. ⌜ ChoosesLess n (n - g) (ofWords n g (now (first .entry)) 0) (ofWords n g (now (second .entry)) 0) r ⌝ }
 {
-    let a = admission::admit_words(n, g, first);
-    let b = admission::admit_words(n, g, second);
+    let a = admission::admit_words(n, g, first, 0);
+    let b = admission::admit_words(n, g, second, 0);
     if lower_of(a.number, b.number) != 0 {
         return 0;
     }
@@ -49,7 +49,7 @@ pub fn choice(n: usize, g: usize, first: &[u16], second: &[u16]) -> u8
 
 // The list whose plan has less aberration, the first if neither has; the empty start of the first if one is refused.
 pub fn less_aberration<'a>(n: usize, g: usize, first: &'a [u16], second: &'a [u16]) -> &'a [u16]
-    ensures { λ r. ⌜ HandsBackLess n (n - g) (ofWords n g (now (first .entry))) (ofWords n g (now (second .entry))) (first .entry) (second .entry) r ⌝ }
+    ensures { λ r. ⌜ HandsBackLess n (n - g) (ofWords n g (now (first .entry)) 0) (ofWords n g (now (second .entry)) 0) (first .entry) (second .entry) r ⌝ }
 {
     let which = choice(n, g, first, second);
     if which == 0 {

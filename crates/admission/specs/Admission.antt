@@ -10,14 +10,13 @@ use lib.ListN.{getD, replicate}
 use Rattle.gf2.specs.DigitLaws.{xor-back}
 use Rattle.regular.specs.Sizes.{Size}
 use Rattle.regular.specs.Runs.{Runs, Agree, switched}
-use Rattle.regular.specs.Refusals.{Lowest, numbered, ColumnsFault}
+use Rattle.regular.specs.Refusals.{Lowest, numbered, maskedFaults}
 use Rattle.regular.specs.RefusalLaws.{lowest-numbered, lowest-unique}
 use Rattle.regular.specs.Columns.{planOf}
 use Rattle.regular.specs.Given.{Given}
 use Rattle.regular.specs.GivenLaws.{StandsFor, lowest-same-lowest}
 use Rattle.regular.specs.declared.Admitted.{Admitted}
 use Rattle.standard.specs.Form.{StandardForm, StandardFor, DistinctNonzero}
-use Rattle.words.specs.Switches.{agree-trans}
 
 -- the plan p of n factors and g generators: refused with sixteen zeros, or accepted with its start and, that run being switched to 0, its standard columns
 pub record Admission (n g : ℕ) (p : Given) (r : Admitted) : Type 0 where
@@ -26,6 +25,7 @@ pub record Admission (n g : ℕ) (p : Given) (r : Admitted) : Type 0 where
   pub refused : 0 < r .number → r .columns ≡ replicate 16 0
   pub size : r .number ≡ 0 → Size n g
   pub start : r .number ≡ 0 → (x : ℕ) → p .start x → x ≡ r .run
+  pub starts : r .number ≡ 0 → p .start (r .run)
   pub within : r .number ≡ 0 → r .run < 2 ^ n
   pub standard : r .number ≡ 0 → StandardFor n (n - g) (switched (r .run) (p .plan)) (r .columns)
   pub distinct : r .number ≡ 0 → DistinctNonzero n (r .columns)
@@ -66,19 +66,6 @@ module _ {n g : ℕ} {p : Given} {r : Admitted} (ad : Admission n g p r) where
     start = λ l. ad .start (number-none l);
   }
 
-  -- the standard columns of the plan switched by its start, and of a plan that starts from the run in which every factor is high
-  pub standard-from : (x : ℕ) → p .start x → r .number ≡ 0 → StandardFor n (n - g) (switched x (p .plan)) (r .columns)
-  standard-from x h e = subst (λ (v : ℕ). StandardFor n (n - g) (switched v (p .plan)) (r .columns)) (sym (ad .start e x h)) (ad .standard e)
-
-  pub standard-from-high : p .start 0 → r .number ≡ 0 → StandardFor n (n - g) (p .plan) (r .columns)
-  standard-from-high h e =
-      let s = standard-from 0 h e in
-      let u = unswitched (p .plan) in
-      record {
-        form = s .form;
-        plan = agree-trans (p .plan) (switched 0 (p .plan)) (planOf n (n - g) (r .columns)) (record { into = u .onto; onto = u .into }) (s .plan);
-      }
-
 -- what is required of an admitted plan: if it is accepted, its columns are ready, and no bit of its start is past factor n
 pub record Prepared (n g : ℕ) (r : Admitted) : Type 0 where
   pub most : r .number ≤ 7
@@ -92,11 +79,12 @@ prepared {n} {g} {p} {r} ad = record {
   within = ad .within;
 }
 
--- the same for columns alone, their sizes being in bounds
-pub record Columned (n m : ℕ) (c : List ℕ) (r : Admitted) : Type 0 where
-  pub lowest : Lowest (ColumnsFault n m c) (r .number)
+-- the same for columns and a mask alone, their sizes being in bounds
+pub record Columned (n m : ℕ) (c : List ℕ) (mask : ℕ) (r : Admitted) : Type 0 where
+  pub lowest : Lowest (maskedFaults n m c mask) (r .number)
   pub refused : 0 < r .number → r .columns ≡ replicate 16 0
-  pub start : r .run ≡ 0
+  pub start : r .number ≡ 0 → r .run ≡ mask
+  pub within : r .number ≡ 0 → mask < 2 ^ n
   pub standard : r .number ≡ 0 → StandardFor n m (planOf n m c) (r .columns)
   pub distinct : r .number ≡ 0 → DistinctNonzero n (r .columns)
   pub unused : r .number ≡ 0 → (f : ℕ) → n ≤ f → getD (r .columns) f 0 ≡ 0

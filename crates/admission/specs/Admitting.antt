@@ -6,17 +6,20 @@ use mathlib.Core.List.{List}
 use native.Mathlib.Omega.{arith}
 use lib.ListN.{length, getD, replicate}
 use Rattle.regular.specs.Sizes.{Size}
-use Rattle.regular.specs.Runs.{Runs, switched}
-use Rattle.regular.specs.Columns.{planOf, Spans}
-use Rattle.regular.specs.Refusals.{SizeFault, ColumnsFault, ListFault, either, Lowest, columnsFaults}
+use Rattle.regular.specs.Runs.{Runs, Agree, switched}
+use Rattle.regular.specs.Columns.{planOf, planWith, Spans}
+use Rattle.regular.specs.PlanBytes.{planBytes}
+use Rattle.regular.specs.Refusals.{SizeFault, ColumnsFault, MaskFault, ListFault, either, Lowest, maskedFaults, columnsFaults}
 use Rattle.regular.specs.RefusalLaws.{lowest-same, lowest-first, lowest-then, size-most}
 use Rattle.regular.specs.Accepted.{size-accepted}
 use Rattle.regular.specs.declared.Admitted.{Admitted}
 use Rattle.standard.specs.Form.{StandardFor, DistinctNonzero}
 use Rattle.standard.specs.Runs.{plan-cols}
 use Rattle.standard.specs.Total.{total-cols}
-use Rattle.words.specs.Switches.{agree-trans, short-agree}
-use Rattle.regular.specs.Given.{Given}
+use Rattle.words.specs.Switches.{agree-trans, short-agree, switched-twice}
+use Rattle.regular.specs.Given.{Given, ofBare}
+use Rattle.gf2.specs.DigitLaws.{bit-none}
+use Rattle.signs.specs.MaskLaws.{basic-agree}
 use lib.Pow.{pow-pos}
 use Rattle.admission.specs.Admission.{Admission, Columned, unswitched}
 use native.Mathlib.Decide.{ℕ-discrete}
@@ -37,6 +40,7 @@ module _ (n g : ℕ) (plan : ℕ → Type 0) (s : Runs) (start : ℕ → Type 0)
     refused = λ _. refl;
     size = λ e. absurd (omega arith);
     start = λ e. absurd (omega arith);
+    starts = λ e. absurd (omega arith);
     within = λ e. absurd (omega arith);
     standard = λ e. absurd (omega arith);
     distinct = λ e. absurd (omega arith);
@@ -55,31 +59,29 @@ module _ (n g : ℕ) (plan : ℕ → Type 0) (s : Runs) (start : ℕ → Type 0)
   plan-refused k h z l r e = refusal k r h e (lowest-then (SizeFault n g) plan k (size-accepted n g z) l)
 
   -- accepted
-  pub accepted : (run : ℕ) (a : List ℕ) → Size n g → Lowest plan 0 → ((x : ℕ) → start x → x ≡ run) → run < 2 ^ n
+  pub accepted : (run : ℕ) (a : List ℕ) → Size n g → Lowest plan 0 → ((x : ℕ) → start x → x ≡ run) → start run → run < 2 ^ n
       → StandardFor n (n - g) (switched run s) a → DistinctNonzero n a
       → ((f : ℕ) → n ≤ f → getD a f 0 ≡ 0) → Admission n g given (record { number = 0; run = run; columns = a })
-  accepted run a z l from low st pl un = record {
+  accepted run a z l from is low st pl un = record {
     lowest = lowest-then (SizeFault n g) plan 0 (size-accepted n g z) l;
     most = most;
     refused = λ h. absurd (omega arith);
     size = λ _. z;
     start = λ _. from;
+    starts = λ _. is;
     within = λ _. low;
     standard = λ _. st;
     distinct = λ _. pl;
     unused = λ _. un;
   }
 
--- standard columns of a plan in which no factor is switched
-pub standard-unswitched : (n m : ℕ) (s : Runs) (a : List ℕ) → StandardFor n m s a → StandardFor n m (switched 0 s) a
-standard-unswitched n m s a st = record { form = st .form; plan = agree-trans (switched 0 s) s (planOf n m a) (unswitched s) (st .plan) }
-
--- columns of sizes in bounds
-pub array-refused : (n m : ℕ) (c : List ℕ) (k : ℕ) (r : Admitted) → r ≡ turned k → 0 < k → Lowest (ColumnsFault n m c) k → Columned n m c r
-array-refused n m c k r e h l = subst (Columned n m c) (sym e) (record {
+-- columns and a mask of sizes in bounds
+pub array-refused : (n m : ℕ) (c : List ℕ) (mask k : ℕ) (r : Admitted) → r ≡ turned k → 0 < k → Lowest (maskedFaults n m c mask) k → Columned n m c mask r
+array-refused n m c mask k r e h l = subst (Columned n m c mask) (sym e) (record {
   lowest = l;
   refused = λ _. refl;
-  start = refl;
+  start = λ e. absurd (omega arith);
+  within = λ e. absurd (omega arith);
   standard = λ e. absurd (omega arith);
   distinct = λ e. absurd (omega arith);
   unused = λ e. absurd (omega arith);
@@ -94,37 +96,87 @@ columns-fault-same n m c d same k (ColumnsFault.above f l h) = ColumnsFault.abov
 columns-fault-same n m c d same k (ColumnsFault.rank h) = ColumnsFault.rank (λ sp. h (spans-cols n m d c (λ f l. sym (same f l)) sp))
 columns-fault-same n m c d same k (ColumnsFault.short h) = ColumnsFault.short (short-agree n (planOf n m c) (planOf n m d) (plan-cols n m c d same) 3 h)
 
--- from columns alone to a plan whose other arguments are not at fault
-pub array-admission : (other : ℕ → Type 0) (n g : ℕ) (c d : List ℕ) (r : Admitted)
-    → ((k : ℕ) → either (SizeFault n g) (either other (ColumnsFault n (n - g) d)) k → k ≤ 7) → Size n g → Lowest other 0
-    → ((f : ℕ) → f < n → getD c f 0 ≡ getD d f 0) → Columned n (n - g) c r
-    → Admission n g (record { faults = either (SizeFault n g) (either other (ColumnsFault n (n - g) d)); plan = planOf n (n - g) d; start = λ x. x ≡ 0 }) r
-array-admission other n g c d r most z l same k =
-    let own : (e : r .number ≡ 0) → StandardFor n (n - g) (planOf n (n - g) d) (r .columns) = λ e.
-    let s = k .standard e in
-    record {
-      form = s .form;
-      plan = agree-trans (planOf n (n - g) d) (planOf n (n - g) c) (planOf n (n - g) (r .columns))
-          (plan-cols n (n - g) d c (λ f h. sym (same f h))) (s .plan);
-    } in
-    record {
-      lowest = lowest-then (SizeFault n g) (either other (ColumnsFault n (n - g) d)) (r .number) (size-accepted n g z)
-          (lowest-then other (ColumnsFault n (n - g) d) (r .number) l
-          (lowest-same (ColumnsFault n (n - g) c) (ColumnsFault n (n - g) d) (r .number)
-          (columns-fault-same n (n - g) c d same) (columns-fault-same n (n - g) d c (λ f h. sym (same f h))) (k .lowest)));
-      most = most;
-      refused = k .refused;
-      size = λ _. z;
-      start = λ _ x e. e ∙ sym (k .start);
-      within = λ _. subst (λ (v : ℕ). v < 2 ^ n) (sym (k .start)) (pow-pos n);
-      standard = λ e. subst (λ (v : ℕ). StandardFor n (n - g) (switched v (planOf n (n - g) d)) (r .columns)) (sym (k .start))
-          (standard-unswitched n (n - g) (planOf n (n - g) d) (r .columns) (own e));
-      distinct = k .distinct;
-      unused = k .unused;
-    }
+masked-fault-same : (n m : ℕ) (c d : List ℕ) (mask : ℕ) → ((f : ℕ) → f < n → getD c f 0 ≡ getD d f 0) → (k : ℕ)
+    → maskedFaults n m c mask k → maskedFaults n m d mask k
+masked-fault-same n m c d mask same k (inl f) = inl (columns-fault-same n m c d same k f)
+masked-fault-same n m c d mask same k (inr (MaskFault.barred h)) =
+    inr (MaskFault.barred (λ a. h (λ f b. a f (basic-agree n (planOf n m c) (planOf n m d) (plan-cols n m c d same) f b))))
 
--- an accepted list of columns has n of them
-pub columns-count : (n g : ℕ) (c : List ℕ) (r : ℕ) → r ≡ 0 → Lowest (columnsFaults n g c) r → length c ≡ n
+-- from columns and a mask alone to a plan whose other arguments are not at fault
+module _ (other : ℕ → Type 0) (n g : ℕ) (c d : List ℕ) (mask : ℕ) (r : Admitted) (same : (f : ℕ) → f < n → getD c f 0 ≡ getD d f 0)
+    (k : Columned n (n - g) c mask r) where
+  abbrev m : ℕ
+  m = n - g
+
+  abbrev own : ℕ → Type 0
+  own = either other (maskedFaults n m d mask)
+
+  -- the plan that the mask switches back is that of the columns
+  switched-standard : r .number ≡ 0 → StandardFor n m (switched (r .run) (planWith n m d mask)) (r .columns)
+  switched-standard e =
+      let s = k .standard e in
+      let back : Agree (switched (r .run) (planWith n m d mask)) (planOf n m d) =
+      subst (λ (v : ℕ). Agree (switched v (planWith n m d mask)) (planOf n m d)) (sym (k .start e)) (switched-twice mask (planOf n m d)) in
+      record {
+        form = s .form;
+        plan = agree-trans (switched (r .run) (planWith n m d mask)) (planOf n m d) (planOf n m (r .columns)) back
+            (agree-trans (planOf n m d) (planOf n m c) (planOf n m (r .columns)) (plan-cols n m d c (λ f h. sym (same f h))) (s .plan));
+      }
+
+  pub array-admission : ((k : ℕ) → either (SizeFault n g) own k → k ≤ 7) → Size n g → Lowest other 0
+      → Admission n g (record { faults = either (SizeFault n g) own; plan = planWith n m d mask; start = λ x. x ≡ mask }) r
+  array-admission most z l = record {
+    lowest = lowest-then (SizeFault n g) own (r .number) (size-accepted n g z)
+        (lowest-then other (maskedFaults n m d mask) (r .number) l
+        (lowest-same (maskedFaults n m c mask) (maskedFaults n m d mask) (r .number)
+        (masked-fault-same n m c d mask same) (masked-fault-same n m d c mask (λ f h. sym (same f h))) (k .lowest)));
+    most = most;
+    refused = k .refused;
+    size = λ _. z;
+    start = λ e x is. is ∙ sym (k .start e);
+    starts = k .start;
+    within = λ e. subst (λ (v : ℕ). v < 2 ^ n) (sym (k .start e)) (k .within e);
+    standard = switched-standard;
+    distinct = k .distinct;
+    unused = k .unused;
+  }
+
+-- the same for columns alone
+module _ (n g : ℕ) (c d : List ℕ) (r : Admitted) (same : (f : ℕ) → f < n → getD c f 0 ≡ getD d f 0) (k : Columned n (n - g) c 0 r) where
+  -- no mask is allowed with any columns
+  unmasked : (i : ℕ) → maskedFaults n (n - g) c 0 i → ColumnsFault n (n - g) c i
+  unmasked i (inl f) = f
+  unmasked i (inr (MaskFault.barred h)) = absurd (h (λ f b. bit-none f))
+
+  pub bare-admission : ((k : ℕ) → ofBare n g d .faults k → k ≤ 7) → Size n g → Lowest (ListFault n d) 0 → Admission n g (ofBare n g d) r
+  bare-admission most z l =
+      let m = n - g in
+      record {
+        lowest = lowest-then (SizeFault n g) (either (ListFault n d) (ColumnsFault n m d)) (r .number) (size-accepted n g z)
+            (lowest-then (ListFault n d) (ColumnsFault n m d) (r .number) l
+            (lowest-same (maskedFaults n m c 0) (ColumnsFault n m d) (r .number)
+            (λ i f. columns-fault-same n m c d same i (unmasked i f))
+            (λ i f. inl (columns-fault-same n m d c (λ f h. sym (same f h)) i f)) (k .lowest)));
+        most = most;
+        refused = k .refused;
+        size = λ _. z;
+        start = λ e x is. is ∙ sym (k .start e);
+        starts = k .start;
+        within = λ e. subst (λ (v : ℕ). v < 2 ^ n) (sym (k .start e)) (pow-pos n);
+        standard = λ e.
+            let s = k .standard e in
+            record {
+              form = s .form;
+              plan = subst (λ (v : ℕ). Agree (switched v (planOf n m d)) (planOf n m (r .columns))) (sym (k .start e))
+                  (agree-trans (switched 0 (planOf n m d)) (planOf n m d) (planOf n m (r .columns)) (unswitched (planOf n m d))
+                  (agree-trans (planOf n m d) (planOf n m c) (planOf n m (r .columns)) (plan-cols n m d c (λ f h. sym (same f h))) (s .plan)));
+            };
+        distinct = k .distinct;
+        unused = k .unused;
+      }
+
+-- the bytes of an accepted plan are those of a plan
+pub columns-count : (n g : ℕ) (c : List ℕ) (r : ℕ) → r ≡ 0 → Lowest (columnsFaults n g c) r → length c ≡ planBytes n
 columns-count n g c r e l =
-    by-cases (ℕ-discrete (length c) n) (λ h. h)
+    by-cases (ℕ-discrete (length c) (planBytes n)) (λ h. h)
     (λ h. absurd (omega (arith, l .least 4 (inr (inl (ListFault.count h))))))

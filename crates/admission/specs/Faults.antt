@@ -2,7 +2,7 @@
 -- a design record, a list of columns. And a word of fewer than three letters is a fault.
 use Prim.Native.Nat.{ℕ, _-_, _^_, _≤_, _<_}
 use mathlib.Core.Path.{_≡_, subst}
-use mathlib.Core.Logic.{_⊎_, inl, inr}
+use mathlib.Core.Logic.{_⊎_, inl, inr, ⊎-elim}
 use mathlib.Core.List.{List}
 use native.Mathlib.Omega.{arith}
 use lib.ListN.{length, getD}
@@ -10,14 +10,16 @@ use Rattle.gf2.specs.Members.{In, Different}
 use Rattle.regular.specs.Sizes.{Size, Sized}
 use Rattle.regular.specs.Runs.{Runs, Table, runsOf}
 use Rattle.regular.specs.Words.{NoShort, Generated, Independent}
-use Rattle.regular.specs.Columns.{planOf, Below, Spans}
+use Rattle.regular.specs.Columns.{planOf, planWith, Below, Spans, Allowed}
 use Rattle.regular.specs.Refusals.{SizeFault, ResolutionFault, WordsFault, ColumnsFault, ListFault, RecordFault, TableFault, WantedFault}
-use Rattle.regular.specs.Refusals.{Short, Lowest, sizeFaults}
+use Rattle.regular.specs.Refusals.{SignFault, MaskFault, Short, either, Lowest, sizeFaults, maskedFaults}
 use Rattle.regular.specs.RefusalLaws.{lowest-none, lowest-at, lowest-first, lowest-then, size-most, resolution-is}
-use Rattle.regular.specs.RefusalLaws.{words-least, columns-least, list-is, record-least, table-least}
+use Rattle.regular.specs.RefusalLaws.{words-least, sign-is, columns-least, mask-is, list-is, record-least, table-least}
 use Rattle.regular.specs.Accepted.{sizes-accepted}
 use Rattle.regular.specs.Given.{ofColumns, ofDesign}
+use Rattle.regular.specs.PlanBytes.{maskIn}
 use Rattle.regular.specs.declared.Design.{Design}
+use Rattle.words.specs.Switches.{short-switched}
 
 -- sizes
 pub size-1 : (n g : ℕ) → (n < 1) ⊎ (16 < n) → Lowest (SizeFault n g) 1
@@ -106,6 +108,32 @@ module _ (n g : ℕ) (ws : List ℕ) where
         never k (WordsFault.dependent p) = p ind
         never k (WordsFault.short p) = short-not n (Generated n g ws) long p
 
+-- words and their signs: a fault of the words by 4 or 5, a sign past them, or signs that are none
+module _ (n g : ℕ) (ws : List ℕ) (signs : ℕ) where
+  abbrev Signed : ℕ → Type 0
+  Signed = either (WordsFault n g ws) (SignFault g signs)
+
+  pub signed-least : (k : ℕ) → Signed k → 4 ≤ k
+  signed-least k = ⊎-elim (words-least n g ws k) (λ f. omega (arith, sign-is g signs k f))
+
+  pub signed-first : (k : ℕ) → 0 < k → k ≤ 5 → Lowest (WordsFault n g ws) k → Lowest Signed k
+  signed-first k h most l = lowest-first (WordsFault n g ws) (SignFault g signs) k h l (λ i f. omega (arith, sign-is g signs i f))
+
+  pub signed-5 : length ws ≡ g → 2 ^ g ≤ signs → Lowest Signed 5
+  signed-5 e h = lowest-at Signed 5 (omega arith) (inr (SignFault.past h)) (λ k. ⊎-elim (least k) (λ f. omega (arith, sign-is g signs k f)))
+    where
+      least : (k : ℕ) → WordsFault n g ws k → 5 ≤ k
+      least k (WordsFault.count p) = absurd (p e)
+      least k (WordsFault.past j p q) = omega arith
+      least k (WordsFault.dependent p) = omega arith
+      least k (WordsFault.short p) = omega arith
+
+  pub signed-fits : (k : ℕ) → signs < 2 ^ g → Lowest (WordsFault n g ws) k → Lowest Signed k
+  signed-fits k h l = record { applies = λ p. inl (l .applies p); least = λ i. ⊎-elim (l .least i) (λ f. absurd (never i f)) }
+    where
+      never : (i : ℕ) → SignFault g signs i → ⊥
+      never i (SignFault.past p) = omega arith
+
 -- columns
 module _ (n m : ℕ) (c : List ℕ) where
   pub columns-5 : (f : ℕ) → f < n → 2 ^ m ≤ getD c f 0 → Lowest (ColumnsFault n m c) 5
@@ -135,6 +163,27 @@ module _ (n m : ℕ) (c : List ℕ) where
         never k (ColumnsFault.above f l p) = omega (arith, below f l)
         never k (ColumnsFault.rank p) = p sp
         never k (ColumnsFault.short p) = short-not n (planOf n m c) long p
+
+-- columns and a mask: a column above by 5, a mask that is not allowed, or one that is
+module _ (n m : ℕ) (c : List ℕ) (mask : ℕ) where
+  abbrev plan : Runs
+  plan = planOf n m c
+
+  pub masked-least : (k : ℕ) → maskedFaults n m c mask k → 5 ≤ k
+  masked-least k = ⊎-elim (columns-least n m c k) (λ f. omega (arith, mask-is n plan mask k f))
+
+  pub masked-above : (f : ℕ) → f < n → 2 ^ m ≤ getD c f 0 → Lowest (maskedFaults n m c mask) 5
+  masked-above f l h =
+      lowest-first (ColumnsFault n m c) (MaskFault n plan mask) 5 (omega arith) (columns-5 n m c f l h) (λ k e. omega (arith, mask-is n plan mask k e))
+
+  pub masked-barred : (Allowed n plan mask → ⊥) → Lowest (maskedFaults n m c mask) 5
+  masked-barred h = lowest-at (maskedFaults n m c mask) 5 (omega arith) (inr (MaskFault.barred h)) masked-least
+
+  pub masked-fits : (k : ℕ) → Allowed n plan mask → Lowest (ColumnsFault n m c) k → Lowest (maskedFaults n m c mask) k
+  masked-fits k a l = record { applies = λ p. inl (l .applies p); least = λ i. ⊎-elim (l .least i) (λ f. absurd (never i f)) }
+    where
+      never : (i : ℕ) → MaskFault n plan mask i → ⊥
+      never i (MaskFault.barred p) = p a
 
 -- a run table
 module _ (n m : ℕ) (t : List ℕ) where
@@ -220,9 +269,12 @@ list-0 n c e = lowest-none (ListFault n c) never
     never : (k : ℕ) → ListFault n c k → ⊥
     never k (ListFault.count p) = p e
 
--- a word of fewer than three letters is a fault of columns and of a record
+-- a word of fewer than three letters is a fault of columns and of a record, whatever factors are switched
+short-columns : (n m : ℕ) (c : List ℕ) (mask k : ℕ) → WantedFault n 3 (planWith n m c mask) k → maskedFaults n m c mask k
+short-columns n m c mask k (WantedFault.short w) = inl (ColumnsFault.short (short-switched n mask (planOf n m c) 3 w))
+
 pub columns-three : (n g : ℕ) (c : List ℕ) (k : ℕ) → WantedFault n 3 (ofColumns n g c .plan) k → ofColumns n g c .faults k
-columns-three n g c k (WantedFault.short w) = inr (inr (ColumnsFault.short w))
+columns-three n g c k f = inr (inr (short-columns n (n - g) c (maskIn n c) k f))
 
 pub design-three : (n g : ℕ) (d : Design) (k : ℕ) → WantedFault n 3 (ofDesign n g d .plan) k → ofDesign n g d .faults k
-design-three n g d k (WantedFault.short w) = inr (inr (ColumnsFault.short w))
+design-three n g d k f = inr (inr (short-columns n (n - g) (d .columns) (d .mask) k f))

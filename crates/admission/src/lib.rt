@@ -6,11 +6,14 @@ ghost use Prim.Native.Nat.{ℕ, _≤_, _<_};
 ghost use lib.ListN.{length, getD, replicate};
 ghost use Rattle.regular.specs.Sizes.{Size, Sized};
 ghost use Rattle.regular.specs.Refusals.{SizeFault, sizeFaults, Lowest};
-ghost use Rattle.regular.specs.Given.{ofWords, ofRuns, ofDesign, ofColumns};
+ghost use Rattle.regular.specs.Given.{ofWords, ofRuns, ofDesign, ofColumns, ofBare};
 ghost use Rattle.regular.specs.RefusalLaws.{Lower};
 ghost use Rattle.admission.specs.Admission.{Admission, Columned};
 use bits::as_index;
 use bits::power;
+use plan_layout::columns_at;
+use plan_layout::mask_in;
+use plan_layout::plan_bytes;
 use regular::Admitted;
 use regular::BASICS;
 use regular::Design;
@@ -79,9 +82,9 @@ fn refused(number: u8) -> Admitted
     }
 }
 
-// A list of generators.
-pub fn admit_words(n: usize, g: usize, words: &[u16]) -> Admitted
-    ensures { λ r. ⌜ Admission n g (ofWords n g (now (words .entry))) r ⌝ }
+// A list of generators and their signs.
+pub fn admit_words(n: usize, g: usize, words: &[u16], signs: u16) -> Admitted
+    ensures { λ r. ⌜ Admission n g (ofWords n g (now (words .entry)) signs) r ⌝ }
 {
     let number = size_number(n, g);
     if number != 0 {
@@ -93,6 +96,9 @@ pub fn admit_words(n: usize, g: usize, words: &[u16]) -> Admitted
     if !word_forms::letters_below(words, power(n)) {
         return refused(5);
     }
+    if power(g) <= bits::wide(signs) {
+        return refused(5);
+    }
     let found = word_forms::words_columns(n, words);
     if !found.ok {
         return refused(6);
@@ -101,9 +107,10 @@ pub fn admit_words(n: usize, g: usize, words: &[u16]) -> Admitted
     if !column_forms::distinct_nonzero(n, columns) {
         return refused(7);
     }
+    let run = sign_forms::mask_of_signs(n, words, signs);
     Admitted {
         number: 0,
-        run: 0,
+        run,
         columns,
     }
 }
@@ -154,12 +161,15 @@ fn columns_below(n: usize, end: usize, columns: [u8; FACTORS]) -> bool
     true
 }
 
-// Columns of sizes in bounds: 5, 6, 7, or their plan's standard columns.
-fn admit_array(n: usize, m: usize, columns: [u8; FACTORS]) -> Admitted
+// Columns and a mask of sizes in bounds: 5, 6, 7, or the mask and the columns' standard columns.
+fn admit_array(n: usize, m: usize, columns: [u8; FACTORS], mask: u16) -> Admitted
     requires { ⌜ (n ≤ 16) × (m ≤ 7) ⌝ }
-    ensures { λ r. ⌜ Columned n m columns r ⌝ }
+    ensures { λ r. ⌜ Columned n m columns mask r ⌝ }
 {
     if !columns_below(n, power(m), columns) {
+        return refused(5);
+    }
+    if !column_forms::allows(n, m, columns, mask) {
         return refused(5);
     }
     let found = column_forms::standardize(n, m, columns);
@@ -172,7 +182,7 @@ fn admit_array(n: usize, m: usize, columns: [u8; FACTORS]) -> Admitted
     }
     Admitted {
         number: 0,
-        run: 0,
+        run: mask,
         columns: standard,
     }
 }
@@ -211,7 +221,7 @@ pub fn admit_design(n: usize, g: usize, design: Design) -> Admitted
     if !unused_zero(n, columns) {
         return refused(5);
     }
-    admit_array(n, m, columns)
+    admit_array(n, m, columns, design.mask)
 }
 
 // The bytes of a list as an array, zeros after them.
@@ -228,9 +238,23 @@ pub fn array_of(list: &[u8]) -> [u8; FACTORS]
     columns
 }
 
-// A list of columns.
-pub fn admit_columns(n: usize, g: usize, list: &[u8]) -> Admitted
-    ensures { λ r. ⌜ Admission n g (ofColumns n g (now (list .entry))) r ⌝ }
+// The bytes of a plan: its columns and its mask.
+pub fn admit_columns(n: usize, g: usize, plan: &[u8]) -> Admitted
+    ensures { λ r. ⌜ Admission n g (ofColumns n g (now (plan .entry))) r ⌝ }
+{
+    let number = size_number(n, g);
+    if number != 0 {
+        return refused(number);
+    }
+    if plan.len() != plan_bytes(n) {
+        return refused(4);
+    }
+    admit_array(n, n - g, columns_at(n, plan, 0), mask_in(n, plan))
+}
+
+// A list of columns alone.
+pub fn admit_bare(n: usize, g: usize, list: &[u8]) -> Admitted
+    ensures { λ r. ⌜ Admission n g (ofBare n g (now (list .entry))) r ⌝ }
 {
     let number = size_number(n, g);
     if number != 0 {
@@ -239,5 +263,5 @@ pub fn admit_columns(n: usize, g: usize, list: &[u8]) -> Admitted
     if list.len() != n {
         return refused(4);
     }
-    admit_array(n, n - g, array_of(list))
+    admit_array(n, n - g, array_of(list), 0)
 }

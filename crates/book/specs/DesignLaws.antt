@@ -1,5 +1,6 @@
 -- Laws of the book of design records: what is known before each record's turn, one record more, and the answer at the end.
 use Prim.Native.Nat.{ℕ, _+_, _≤_, _<_}
+use mathlib.Core.Bool.{true}
 use mathlib.Core.Path.{_≡_, refl, sym, subst, _∙_}
 use mathlib.Core.Logic.{by-cases}
 use mathlib.Core.List.{List}
@@ -16,10 +17,10 @@ use Rattle.book.specs.Writing.{Opened, Written, EntryAdded}
 use Rattle.book.specs.WritingLaws.{entry-room, refusal-none, begun-room, written-none, written-more, written-size, writes-refused, writes-book}
 
 -- the sizes of a list that is accepted
-pub records-bounds : (n g r number : ℕ) (list : List Design) → Lowest (wantedRecordsFaults n g r list) number → number ≡ 0
+pub records-bounds : (n g r number : ℕ) (list : List Design) → Lowest (wantedRecordsFaults n g r true list) number → number ≡ 0
     → (n ≤ 16) × (g ≤ 16) × (r ≤ 16)
 records-bounds n g r number list l e =
-    let b = records-accepted n g r list (subst (Lowest (wantedRecordsFaults n g r list)) e l) .bounds in
+    let b = records-accepted n g r list (subst (Lowest (wantedRecordsFaults n g r true list)) e l) .bounds in
     (b .size .most, omega (arith, b .size .less, b .size .most), b .high)
 
 abbrev recordEntry : ℕ → ℕ → List Design → ℕ → BookEntry
@@ -28,14 +29,14 @@ recordEntry n g list i = entryOfDesign n g (getD list i blank)
 -- before the turn of record i: refused, and nothing was written; or the header and the entries of the records before it stand
 pub record BookSoFar (n g r : ℕ) (list : List Design) (v w : List ℕ) (i number used : ℕ) : Type 0 where
   pub first : ℕ
-  pub own : Lowest (wantedRecordsFaults n g r list) first
+  pub own : Lowest (wantedRecordsFaults n g r true list) first
   pub start : List ℕ
   pub at : ℕ
   pub begins : Opened n g r (length list) first v start number at
   pub refused : 0 < number → (used ≡ at) × (w ≡ start)
   pub going : number ≡ 0 → Written n (recordEntry n g list) i start w used
 
-pub so-far-start : {n g r first number used : ℕ} {list : List Design} {v w : List ℕ} → Lowest (wantedRecordsFaults n g r list) first
+pub so-far-start : {n g r first number used : ℕ} {list : List Design} {v w : List ℕ} → Lowest (wantedRecordsFaults n g r true list) first
     → Opened n g r (length list) first v w number used → BookSoFar n g r list v w 0 number used
 so-far-start {n} {g} {r} {first} {number} {used} {list} {v} {w} own b = record {
   first = first;
@@ -51,7 +52,7 @@ module _ {n g r : ℕ} {list : List Design} {v w : List ℕ} {i number used : �
   accepted : number ≡ 0 → AcceptedRecords n g r list
   accepted e =
       let z = refusal-none n (length list) (x .first) (length v) number e (x .begins .refusal) .plans in
-      records-accepted n g r list (subst (Lowest (wantedRecordsFaults n g r list)) z (x .own))
+      records-accepted n g r list (subst (Lowest (wantedRecordsFaults n g r true list)) z (x .own))
 
   -- there is room for one more entry
   pub so-far-room : i < length list → number ≡ 0 → Lowest (designFaults n g (getD list i blank)) 0 × (used + entryLength n ≤ length w)
@@ -86,9 +87,9 @@ module _ {n g r : ℕ} {list : List Design} {v w : List ℕ} {i number used : �
   so-far-end e =
       by-cases (ℕ-discrete number 0)
       (λ z. subst (λ (m : ℕ). WritesDesigns n g r list v w m used) (sym z)
-      (writes-book (records-most n g r list) (x .own) (x .begins) z
+      (writes-book (records-most n g r true list) (x .own) (x .begins) z
       (subst (λ (m : ℕ). Written n (recordEntry n g list) m (x .start) w used) e (x .going z))))
       (λ ne. let q = x .refused (omega arith) in
-      writes-refused (records-most n g r list) (x .own)
+      writes-refused (records-most n g r true list) (x .own)
       (subst (λ (m : ℕ). Opened n g r (length list) (x .first) v w number m) (sym (q .0))
       (subst (λ (l : List ℕ). Opened n g r (length list) (x .first) v l number (x .at)) (sym (q .1)) (x .begins))) ne)

@@ -1,17 +1,22 @@
 -- Laws of the entries: one plan of the bytes more, one record more, and the room that each has.
-use Prim.Native.Nat.{ℕ, _+_, _≤_, _<_}
+use Prim.Native.Nat.{ℕ, _+_, _-_, _≤_, _<_}
+use mathlib.Core.Bool.{true}
 use mathlib.Core.Path.{_≡_, subst}
 use mathlib.Core.List.{List}
 use native.Mathlib.Nat.{mul-le-mul-right}
 use native.Mathlib.Omega.{arith}
 use lib.ListN.{length}
+use Rattle.regular.specs.Runs.{Runs}
+use Rattle.regular.specs.Columns.{planOf}
+use Rattle.regular.specs.Pattern.{Pattern}
 use Rattle.regular.specs.Refusals.{Lowest, columnsFaults}
 use Rattle.regular.specs.RefusalLaws.{lowest-unique}
-use Rattle.regular.specs.PlanBytes.{planAt, planCount}
+use Rattle.regular.specs.PlanBytes.{planAt, planCount, maskIn}
 use Rattle.regular.specs.PlanLists.{wantedPlansFaults}
 use Rattle.regular.specs.Smallest.{Equal}
 use Rattle.regular.specs.Given.{Given, ofColumns}
 use Rattle.regular.specs.declared.Admitted.{Admitted}
+use Rattle.words.specs.Switches.{pattern-switched}
 use Rattle.admission.specs.Admission.{Admission, Ready, ready}
 use Rattle.measures.specs.Measured.{pattern-given}
 use Rattle.plan_layout.specs.Places.{count-held}
@@ -29,20 +34,21 @@ module _ {n g : ℕ} {p : Given} {x : Admitted} (l : Lowest (p .faults) 0) (ad :
   pub admitted-ready : Ready n g (x .columns)
   admitted-ready = ready ad admitted-none
 
-  -- the entry of a plan by its standard columns is the plan's: the pattern is its own
-  pub entry-of : {c d v w : List ℕ} {at to : ℕ} → columnsRecord n c ≡ columnsRecord n d → PutEntry n (standardEntry n g c (x .columns)) at v w to
-      → PutEntry n (record { columns = d; plan = p .plan }) at v w to
-  entry-of same put = record {
+  -- the entry of a plan by its standard columns is that of the plan s of which it is a switching: the pattern is its own
+  pub entry-of : {c d v w : List ℕ} {at to : ℕ} (s : Runs) → ((q : List ℕ) → Pattern n (p .plan) q → Pattern n s q)
+      → columnsRecord n c ≡ columnsRecord n d → PutEntry n (standardEntry n g c (x .columns)) at v w to
+      → PutEntry n (record { columns = d; plan = s }) at v w to
+  entry-of s own same put = record {
     bytes = put .bytes;
-    are = entry-like same (pattern-given ad admitted-none) (put .are);
+    are = entry-like same (λ q h. own q (pattern-given ad admitted-none q h)) (put .are);
     stand = put .stand;
     next = put .next;
   }
 
 -- the sizes of a list that is accepted
-pub plans-bounds : (n g r number : ℕ) (plans : List ℕ) → Lowest (wantedPlansFaults n g r plans) number → number ≡ 0 → (n ≤ 16) × (g ≤ 16) × (r ≤ 16)
+pub plans-bounds : (n g r number : ℕ) (plans : List ℕ) → Lowest (wantedPlansFaults n g r true plans) number → number ≡ 0 → (n ≤ 16) × (g ≤ 16) × (r ≤ 16)
 plans-bounds n g r number plans l e =
-    let b = plans-accepted n g r plans (subst (Lowest (wantedPlansFaults n g r plans)) e l) .bounds in
+    let b = plans-accepted n g r plans (subst (Lowest (wantedPlansFaults n g r true plans)) e l) .bounds in
     (b .size .most, omega (arith, b .size .less, b .size .most), b .high)
 
 -- plans as bytes, the book of which has room in v
@@ -61,7 +67,10 @@ module _ (n g r : ℕ) (plans : List ℕ) (ok : AcceptedPlans n g r plans) (v : 
 
       pub plans-more : {c w' : List ℕ} {to : ℕ} → Equal n c (planAt n plans i) → PutEntry n (standardEntry n g c (a .columns)) at w w' to
           → Written n (planEntry n g plans) (i + 1) v w' to
-      plans-more {c} {w'} {to} same put = written-more x (entry-of plans-lowest plans-admitted (columns-same n c (planAt n plans i) same) put)
+      plans-more {c} {w'} {to} same put =
+          let own = planAt n plans i in
+          let plan = planOf n (n - g) own in
+          written-more x (entry-of plans-lowest plans-admitted plan (pattern-switched n (maskIn n own) plan) (columns-same n c own same) put)
 
     pub plans-room : at + entryLength n ≤ length w
     plans-room =

@@ -163,7 +163,7 @@ fn put_plans(n: usize, g: usize, plans: &[u8], out: &mut [u8]) -> usize
 pub fn write_book(n: usize, g: usize, r: usize, plans: &[u8], out: &mut [u8]) -> BookAnswer
     ensures { λ res. ⌜ WritesPlans n g r (now (plans .entry)) (now (out .entry)) (now (out .exit)) (res .number) (res .count) ⌝ }
 {
-    let number = plan_lists::plans_refusal(n, g, r, plans);
+    let number = plan_lists::plans_refusal(n, g, r, true, plans);
     let count = plan_count(n, plans.len());
     let begun = begin(n, g, r, count, number, out);
     if begun.number != 0 {
@@ -201,7 +201,7 @@ pub fn write_book_of_designs(
 ) -> BookAnswer
     ensures { λ res. ⌜ WritesDesigns n g r (now (list .entry)) (now (out .entry)) (now (out .exit)) (res .number) (res .count) ⌝ }
 {
-    let number = plan_lists::records_refusal(n, g, r, list);
+    let number = plan_lists::records_refusal(n, g, r, true, list);
     let mut answer = begin(n, g, r, list.len(), number, out);
     let mut i: usize = 0;
     while i < list.len() {

@@ -11,7 +11,7 @@ use lib.Dec.{ltb}
 use lib.ListN.{length, getD, drop}
 use lib.Seq.{drop-drop}
 use Rattle.regular.specs.Catalogues.{ListsBytes}
-use Rattle.regular.specs.PlanBytes.{planBytes, planStart, planAt, HasPlan, planCount}
+use Rattle.regular.specs.PlanBytes.{planBytes, planStart, planAt, HasPlan, planCount, maskIn}
 use Rattle.regular.specs.Smallest.{Equal}
 use Rattle.entries.specs.declared.WalkState.{WalkState}
 use Rattle.entries.specs.Tracing.{StateOf}
@@ -27,6 +27,7 @@ filling-none n g r v c state h = record {
   room = omega (arith, start-first n);
   size = refl;
   entries = λ j h. absurd (omega arith);
+  unswitched = λ j h. absurd (omega arith);
   rest = refl;
 }
 
@@ -44,7 +45,7 @@ module _ (n g r : ℕ) (v w : List ℕ) (i : ℕ) (c : List ℕ) (state : WalkSt
       ap (λ (j : ℕ). drop j w) (start-next n i) ∙ sym (drop-drop (planBytes n) k w) ∙ ap (drop (planBytes n)) (x .rest)
       ∙ drop-drop (planBytes n) k v ∙ ap (λ (j : ℕ). drop j v) (sym (start-next n i))
 
-  pub filling-more : (d w' : List ℕ) (next : WalkState) → NextFound n g r i (ltb i places) c d next → PlanPut n d i w w'
+  pub filling-more : (d w' : List ℕ) (next : WalkState) → NextFound n g r i (ltb i places) c d next → PlanPut n d 0 i w w'
       → FillingBytes n g r v w' (i + 1) d next
   filling-more d w' next t put = record {
     all = with-entry (x .all) i d;
@@ -56,6 +57,8 @@ module _ (n g r : ℕ) (v w : List ℕ) (i : ℕ) (c : List ℕ) (state : WalkSt
         (λ f l. ap (λ (y : List ℕ). getD y f 0) (with-same (x .all) i d) ∙ sym (put .plan f l)))
         (λ ne f l. ap (λ (y : List ℕ). getD y f 0) (with-other (x .all) i d j ne) ∙ x .entries j (omega arith) f l
         ∙ ap (λ (y : List ℕ). getD y f 0) (sym (put .earlier j (omega arith))));
+    unswitched = λ j h. by-cases (ℕ-discrete j i) (λ z. ap (λ (k : ℕ). maskIn n (planAt n w' k)) z ∙ put .mask)
+        (λ ne. ap (maskIn n) (put .earlier j (omega arith)) ∙ x .unswitched j (omega arith));
     rest = subst (λ (k : ℕ). drop (planStart n k) w' ≡ drop (planStart n k) v) (sym (add-one i)) (put .rest ∙ later);
   }
 
@@ -64,6 +67,7 @@ module _ (n g r : ℕ) (v w : List ℕ) (i : ℕ) (c : List ℕ) (state : WalkSt
     catalogues = stopped n g r (λ k. planStart n k ≤ length v) (λ a b h l. omega (arith, l, start-order n b a h)) i (x .all) c state
         (x .progress) (x .room) (planAt n w) (x .entries) number (ltb i places)
         (λ z q l. omega (arith, e, ltb-false i places q, held-count n (length v) i (z .size .some) l)) s;
+    unswitched = x .unswitched;
     rest = x .rest;
     size = x .size;
   }

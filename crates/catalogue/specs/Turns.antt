@@ -5,7 +5,7 @@ use mathlib.Core.List.{List, []}
 use Prim.Native.Nat.{ℕ, _-_, _≤_, _<_}
 use lib.Dec.{ltb}
 use lib.ListN.{length, drop}
-use Rattle.regular.specs.PlanBytes.{planStart, planAt}
+use Rattle.regular.specs.PlanBytes.{planStart, planAt, maskIn}
 use Rattle.regular.specs.Refusals.{Lowest, sizeFaults}
 use Rattle.regular.specs.Smallest.{Equal, Entry}
 use Rattle.smallest_laws.specs.Value.{value}
@@ -55,4 +55,5 @@ pub record FillingBytes (n g r : ℕ) (v w : List ℕ) (i : ℕ) (c : List ℕ) 
   pub room : planStart n i ≤ length v
   pub size : length w ≡ length v
   pub entries : (j : ℕ) → j < i → Equal n (all j) (planAt n w j)
+  pub unswitched : (j : ℕ) → j < i → maskIn n (planAt n w j) ≡ 0
   pub rest : drop (planStart n i) w ≡ drop (planStart n i) v

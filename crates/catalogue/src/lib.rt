@@ -92,7 +92,7 @@ pub fn list_catalogue(n: usize, g: usize, r: usize, out: &mut [u8]) -> Catalogue
             };
         }
         let t = s.columns;
-        put_plan(n, t, count, out);
+        put_plan(n, t, 0, count, out);
         c = t;
         state = s.state;
         count += 1;

@@ -4,3 +4,4 @@ pub mod Listing
 pub mod Steps
 pub mod Walk
 pub mod Walked
+pub mod SignedPlans

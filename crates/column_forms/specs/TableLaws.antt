@@ -14,9 +14,9 @@ use lib.Seq.{getD-set-same, getD-set-other}
 use Rattle.gf2.specs.Digits.{bit}
 use Rattle.gf2.specs.Parity.{odd-bit}
 use Rattle.gf2.specs.Doubling.{Doubling, doubling-none, doubling-more}
-use Rattle.gf2.specs.Fill.{zeros}
+use Rattle.gf2.specs.Fill.{Filled, fill-more, zeros}
 use Rattle.gf2.specs.DigitLaws.{pow-twice}
-use Rattle.regular.specs.Columns.{runOf, RunTable}
+use Rattle.regular.specs.Columns.{runOf, RunTable, RunTableWith}
 use Rattle.standard.specs.Form.{Repeat}
 use Rattle.standard.specs.Runs.{run-lt, run-zero, run-xor}
 use Rattle.column_forms.specs.Tables.{SumsHeld, SumsGrown, Seen}
@@ -162,4 +162,22 @@ runs-more n d c s t u half e p r o =
           ap (λ (y : ℕ). getD t y 0) (sym q) ∙ o .high k (omega arith) ∙ ap₂ bitXor (r .run k (omega arith)) p ∙ sym (run-xor c n k (2 ^ d))
           ∙ ap (runOf c n) (x ∙ q));
       unused = λ j h. o .past j (omega arith) ∙ r .unused j (omega arith);
+    }
+
+-- the table s, switched below j
+abbrev pub Switching : List ℕ → ℕ → ℕ → List ℕ → Type 0
+Switching s mask j t = Filled (λ k. bitXor (getD s k 0) mask) s j t
+
+pub switch-more : (s : List ℕ) (mask j : ℕ) (t : List ℕ) → j < length s → Switching s mask j t
+    → Switching s mask (j + 1) (set t j (bitXor (getD t j 0) mask))
+switch-more s mask j t h o =
+    fill-more (λ k. bitXor (getD s k 0) mask) s j t o (bitXor (getD t j 0) mask) h (ap (λ (x : ℕ). bitXor x mask) (o .kept j (omega arith)))
+
+pub switch-all : (n m : ℕ) (c : List ℕ) (mask : ℕ) (s t : List ℕ) (j : ℕ) → j ≡ 2 ^ m → RunTable n m c s → Switching s mask j t
+    → RunTableWith n m c mask t
+switch-all n m c mask s t j e r o =
+    record {
+      places = o .size ∙ r .places;
+      run = λ k h. o .done k (omega arith) ∙ ap (λ (x : ℕ). bitXor x mask) (r .run k h);
+      unused = λ k h. o .kept k (omega arith) ∙ r .unused k h;
     }

@@ -42,7 +42,11 @@ pub record ColumnWalk (n m : ℕ) (c : List ℕ) (f half : ℕ) (sums places a :
   pub column : (g : ℕ) → g < f → (getD a g 0 < half) × (total basis rank (getD a g 0) ≡ getD c g 0)
   pub unused : (g : ℕ) → f ≤ g → getD a g 0 ≡ 0
 
--- no unit more where the next column is none
+-- all n columns are passed
+pub record WalkEnded (n m : ℕ) (c : List ℕ) (half : ℕ) (a : List ℕ) : Type 0 where
+  pub sums : List ℕ
+  pub places : List ℕ
+  pub walk : ColumnWalk n m c n half sums places a
 
 -- nothing passed: the empty basis reaches 0
 pub walk-none : (n m : ℕ) (c : List ℕ) → ColumnWalk n m c 0 1 (replicate 128 0) (set (replicate 128 0) 0 1) (replicate 16 0)
@@ -66,14 +70,14 @@ walk-none n m c =
 
 module _ (n m : ℕ) (c : List ℕ) (f half : ℕ) (sums places a : List ℕ) (w : ColumnWalk n m c f half sums places a) where
   -- no sum is taken twice
-  basis-independent : Independent (w .rank) (w .basis)
+  pub basis-independent : Independent (w .rank) (w .basis)
   basis-independent s h e =
       let F = total (w .basis) (w .rank) in
       let p : getD places (F s) 0 ≡ s + 1 = w .held .back s (omega (arith, w .size)) in
       let q : getD places (F 0) 0 ≡ 0 + 1 = w .held .back 0 (omega (arith, w .size, pow-pos (w .rank))) in
       omega (arith, ap (λ (x : ℕ). getD places x 0) (e ∙ sym (total-none (w .basis) (w .rank))))
 
-  basis-below : Below n m c → Below (w .rank) m (w .basis)
+  pub basis-below : Below n m c → Below (w .rank) m (w .basis)
   basis-below b i h = let s = w .reached i h in omega (arith, s .1 .1, total-lt c n m (s .0) b)
 
   -- the sums fit their table of places
@@ -223,16 +227,18 @@ module _ (n m : ℕ) (c : List ℕ) (half : ℕ) (sums places a : List ℕ) (bel
       let e : r ≡ m = omega (arith, w .most) in
       ne (w .size ∙ ap (λ (k : ℕ). 2 ^ k) e)
 
-pub walk-full : (n m : ℕ) (c : List ℕ) (f half : ℕ) (sums places a : List ℕ) → Below n m c → f ≡ n → ColumnWalk n m c f half sums places a → half ≡ 2 ^ m
-    → StandardFound n m (Spans n m c) (planOf n m c) true a
-walk-full n m c f half sums places a below e walk full =
-    let w : ColumnWalk n m c n half sums places a = subst (λ (g : ℕ). ColumnWalk n m c g half sums places a) e walk in
-    is-found n m (Spans n m c) (planOf n m c) a (full-spans n m c half sums places a below w full)
-    (full-standard n m c half sums places a below w full) (w .unused)
+pub walk-ended : (n m : ℕ) (c : List ℕ) (f half : ℕ) (sums places a : List ℕ) → f ≡ n → ColumnWalk n m c f half sums places a → WalkEnded n m c half a
+walk-ended n m c f half sums places a e w =
+    record { sums = sums; places = places; walk = subst (λ (g : ℕ). ColumnWalk n m c g half sums places a) e w }
 
-pub walk-short : (n m : ℕ) (c : List ℕ) (f half : ℕ) (sums places a : List ℕ) → Below n m c → f ≡ n
-    → ColumnWalk n m c f half sums places a → (half ≡ 2 ^ m → ⊥)
+pub walk-full : (n m : ℕ) (c : List ℕ) (half : ℕ) (a : List ℕ) → Below n m c → WalkEnded n m c half a → half ≡ 2 ^ m
+    → StandardFound n m (Spans n m c) (planOf n m c) true a
+walk-full n m c half a below o full =
+    let w = o .walk in
+    is-found n m (Spans n m c) (planOf n m c) a (full-spans n m c half (o .sums) (o .places) a below w full)
+    (full-standard n m c half (o .sums) (o .places) a below w full) (w .unused)
+
+pub walk-short : (n m : ℕ) (c : List ℕ) (half : ℕ) (a : List ℕ) → Below n m c → WalkEnded n m c half a → (half ≡ 2 ^ m → ⊥)
     → StandardFound n m (Spans n m c) (planOf n m c) false (replicate 16 0)
-walk-short n m c f half sums places a below e walk short =
-    not-found n m (Spans n m c) (planOf n m c)
-    (short-spans n m c half sums places a below (subst (λ (g : ℕ). ColumnWalk n m c g half sums places a) e walk) short)
+walk-short n m c half a below o short =
+    not-found n m (Spans n m c) (planOf n m c) (short-spans n m c half (o .sums) (o .places) a below (o .walk) short)

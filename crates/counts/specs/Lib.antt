@@ -2,6 +2,7 @@ pub mod Counting
 pub mod Tally
 pub mod Models
 pub mod WordCounts
+pub mod GivenWords
 pub mod Patterns
 pub mod Resolutions
 pub mod ShortWords

@@ -32,12 +32,12 @@ module _ (n m : ℕ) (s : Runs) (a : List ℕ) (st : StandardFor n m s a) where
   pub plan-pattern-sum : (p : List ℕ) → Pattern n s p → sumTo n p ≡ 2 ^ (n - m) - 1
   plan-pattern-sum p h = pattern-sum n (n - m) s (wordsTo a n) p (words-generators n m s a st) h
 
--- the plan of words without a fault
-pub accepted-pattern : (n g : ℕ) (ws : List ℕ) → Lowest (wordsFaults n g ws) 0 → (p : List ℕ) × Pattern n (Generated n g ws) p
-accepted-pattern n g ws l =
-    let z = accepted-words-size n g ws l in
+-- the plan that words without a fault generate
+pub accepted-pattern : (n g : ℕ) (ws : List ℕ) (signs : ℕ) → Lowest (wordsFaults n g ws signs) 0 → (p : List ℕ) × Pattern n (Generated n g ws) p
+accepted-pattern n g ws signs l =
+    let z = accepted-words-size n g ws signs l in
     plan-pattern n (n - g) (Generated n g ws) (wordColumns (pivotsAt ws n g) n)
-    (words-standard n g ws (z .most) (omega (arith, z .less)) (accepted-within n g ws l) (accepted-independent n g ws l))
+    (words-standard n g ws (z .most) (omega (arith, z .less)) (accepted-within n g ws signs l) (accepted-independent n g ws signs l))
 
 -- a plan whose columns are those of the plan with the factors in v switched
 pub switched-words : (n m v : ℕ) (s : Runs) (a : List ℕ) → StandardFor n m (switched v s) a → Count (Word n s) (2 ^ (n - m) - 1)

@@ -8,7 +8,7 @@ use native.Mathlib.Omega.{arith}
 use lib.ListN.{getD, replicate}
 use Rattle.regular.specs.InTurn.{Check, InTurn}
 use Rattle.regular.specs.Designs.{Holds, blank}
-use Rattle.regular.specs.PlanBytes.{planAt}
+use Rattle.regular.specs.PlanBytes.{planAt, maskIn}
 use Rattle.regular.specs.Reading.{Reading}
 use Rattle.regular.specs.ReadingAnswers.{placesOf, ReadsPlans, ReadsDesigns}
 use Rattle.regular.specs.Smallest.{Equal, Entry}
@@ -18,9 +18,9 @@ use Rattle.reading_laws.specs.Taken.{taken-like}
 use Rattle.column_tables.specs.Tables.{Apart, column-tables-same}
 use Rattle.entry_test.specs.Testing.{PositiveRising, KeptTables, kept-none}
 use Rattle.reading.specs.Answers.{EntryThere, earlierColumns, Answered}
-use Rattle.whiteboard.specs.PlanInstances.{recordABC, recordABCD, holds-abc, holds-abcd}
+use Rattle.whiteboard.specs.PlanInstances.{recordABC, recordABCD, holds-abc, holds-abcd, equal-abc, equal-abcd}
 use Rattle.whiteboard.specs.ReadingInstances.{first, second, rising, header-4, judged, read-rising, columnsOf, taken-rising}
-use Rattle.whiteboard.specs.Samples.{abc, abcd}
+use Rattle.whiteboard.specs.Samples.{abc, abcd, planABC, planABCD}
 use Rattle.whiteboard.specs.Tests.{below, agree-at}
 use Rattle.instances.specs.Searching.{column, marks, sums}
 use Rattle.instances.specs.Walking.{column-tables-1, rising-1}
@@ -34,10 +34,11 @@ two : (P : ℕ → Type 0) → P 0 → P 1 → (i : ℕ) → i < 2 → P i
 two P a b i h = by-cases (ℕ-discrete i 0) (λ e. subst P (sym e) a) (λ ne. let e : 1 ≡ i = omega arith in subst P e b)
 
 -- what the lists hold has the columns of the entries
-plans-agree : (i : ℕ) → i < 2 → Equal 4 (columnsOf i) (planAt 4 (abc ++ abcd ++ (9 ∷ [])) i)
-unfolding below
-plans-agree = two (λ i. Equal 4 (columnsOf i) (planAt 4 (abc ++ abcd ++ (9 ∷ [])) i))
-    (agree-at (λ f. getD abc f 0) (λ f. getD abc f 0) 4 refl) (agree-at (λ f. getD abcd f 0) (λ f. getD abcd f 0) 4 refl)
+abbrev bytes : List ℕ
+bytes = planABC ++ planABCD ++ (9 ∷ [])
+
+plans-agree : (i : ℕ) → i < 2 → Equal 4 (columnsOf i) (planAt 4 bytes i)
+plans-agree = two (λ i. Equal 4 (columnsOf i) (planAt 4 bytes i)) equal-abc equal-abcd
 
 abbrev list : List Design
 list = recordABC ∷ recordABCD ∷ blank ∷ []
@@ -47,15 +48,18 @@ unfolding below
 designs-agree = two (λ i. Equal 4 (columnsOf i) (getD list i blank .columns))
     (agree-at (λ f. getD abc f 0) (λ f. getD (recordABC .columns) f 0) 4 refl) (agree-at (λ f. getD abcd f 0) (λ f. getD (recordABCD .columns) f 0) 4 refl)
 
--- into nine bytes, the last of which stays
-pub reads-plans : ReadsPlans rising (replicate 9 9) (abc ++ abcd ++ (9 ∷ [])) answer
+-- into thirteen bytes, the last of which stays
+pub reads-plans : ReadsPlans rising (replicate 13 9) bytes answer
 reads-plans = record {
-  number = InTurn.passes 0 (header-4 (first ++ second)) (InTurn.passes 0 (Check.holds (omega arith)) judged);
-  refused = λ h. absurd (omega arith);
-  taken = λ _. taken-like 4 1 3 2 columnsOf (planAt 4 (abc ++ abcd ++ (9 ∷ []))) rising plans-agree taken-rising;
-  room = λ _. omega arith;
-  rest = refl;
-  size = refl;
+  reads = record {
+    number = InTurn.passes 0 (header-4 (first ++ second)) (InTurn.passes 0 (Check.holds (omega arith)) judged);
+    refused = λ h. absurd (omega arith);
+    taken = λ _. taken-like 4 1 3 2 columnsOf (planAt 4 bytes) rising plans-agree taken-rising;
+    room = λ _. omega arith;
+    rest = refl;
+    size = refl;
+  };
+  unswitched = two (λ i. maskIn 4 (planAt 4 bytes i) ≡ 0) refl refl;
 }
 
 -- into three records, the last of which stays

@@ -37,7 +37,7 @@ pub fn first_place(list: &[Design], d: Design) -> usize
     found
 }
 
-// The first place, from 1, of n columns in a list of plans one after another, 0 if they are absent.
+// The first place, from 1, of n columns without switches in a list of plans one after another, 0 if they are absent.
 pub fn first_columns(n: usize, list: &[u8], c: [u8; FACTORS]) -> usize
     requires { ⌜ (1 ≤ n) × (n ≤ 16) ⌝ }
     ensures { λ r. ⌜ ColumnsPlace n (now (list .entry)) c r ⌝ }

@@ -81,11 +81,11 @@ fn lend_distances(n: usize, g: usize, plan: Admitted, out: &mut [u16]) -> u8
     lent::lend_numbers(&counts[..end], out)
 }
 
-// The pattern of the plan that words generate, in a lent list: the count of length l at place l - 1.
-pub fn pattern_of_words(n: usize, g: usize, words: &[u16], out: &mut [u16]) -> u8
-    ensures { λ r. ⌜ PatternInto n (ofWords n g (now (words .entry))) (now (out .entry)) (now (out .exit)) r ⌝ }
+// The pattern of the plan of words and signs, in a lent list: the count of length l at place l - 1.
+pub fn pattern_of_words(n: usize, g: usize, words: &[u16], signs: u16, out: &mut [u16]) -> u8
+    ensures { λ r. ⌜ PatternInto n (ofWords n g (now (words .entry)) signs) (now (out .entry)) (now (out .exit)) r ⌝ }
 {
-    lend_pattern(n, g, admission::admit_words(n, g, words), out)
+    lend_pattern(n, g, admission::admit_words(n, g, words, signs), out)
 }
 
 // .. of the plan of a design record.
@@ -109,11 +109,11 @@ pub fn pattern_of_runs(n: usize, g: usize, runs: &[u16], out: &mut [u16]) -> u8
     lend_pattern(n, g, admission::admit_runs(n, g, runs), out)
 }
 
-// The resolution of the plan that words generate.
-pub fn resolution_of_words(n: usize, g: usize, words: &[u16]) -> ResolutionAnswer
-    ensures { λ r. ⌜ ResolutionOf n (ofWords n g (now (words .entry))) (r .number) (r .resolution) ⌝ }
+// The resolution of the plan of words and signs.
+pub fn resolution_of_words(n: usize, g: usize, words: &[u16], signs: u16) -> ResolutionAnswer
+    ensures { λ r. ⌜ ResolutionOf n (ofWords n g (now (words .entry)) signs) (r .number) (r .resolution) ⌝ }
 {
-    resolution(n, g, admission::admit_words(n, g, words))
+    resolution(n, g, admission::admit_words(n, g, words, signs))
 }
 
 // .. of the plan of a design record.
@@ -137,11 +137,11 @@ pub fn resolution_of_runs(n: usize, g: usize, runs: &[u16]) -> ResolutionAnswer
     resolution(n, g, admission::admit_runs(n, g, runs))
 }
 
-// The distance counts of the plan that words generate from its first run, in which every factor is high, in a lent list: of distance i at place i.
-pub fn distances_of_words(n: usize, g: usize, words: &[u16], out: &mut [u16]) -> u8
-    ensures { λ r. ⌜ DistancesInto n (ofWords n g (now (words .entry))) (now (out .entry)) (now (out .exit)) r ⌝ }
+// The distance counts of the plan of words and signs, in a lent list: of distance i at place i. Each run of a plan has the same.
+pub fn distances_of_words(n: usize, g: usize, words: &[u16], signs: u16, out: &mut [u16]) -> u8
+    ensures { λ r. ⌜ DistancesInto n (ofWords n g (now (words .entry)) signs) (now (out .entry)) (now (out .exit)) r ⌝ }
 {
-    lend_distances(n, g, admission::admit_words(n, g, words), out)
+    lend_distances(n, g, admission::admit_words(n, g, words, signs), out)
 }
 
 // .. of the plan of a design record.
@@ -180,11 +180,11 @@ fn lend_resolution(answer: ResolutionAnswer, out: &mut [u8]) -> u8
     0
 }
 
-// The resolution of words, in a lent list of one place.
-pub fn list_resolution_of_words(n: usize, g: usize, words: &[u16], out: &mut [u8]) -> u8
-    ensures { λ r. ⌜ ResolutionInto n (ofWords n g (now (words .entry))) (now (out .entry)) (now (out .exit)) r ⌝ }
+// The resolution of words and signs, in a lent list of one place.
+pub fn list_resolution_of_words(n: usize, g: usize, words: &[u16], signs: u16, out: &mut [u8]) -> u8
+    ensures { λ r. ⌜ ResolutionInto n (ofWords n g (now (words .entry)) signs) (now (out .entry)) (now (out .exit)) r ⌝ }
 {
-    let plan = admission::admit_words(n, g, words);
+    let plan = admission::admit_words(n, g, words, signs);
     lend_resolution(resolution(n, g, plan), out)
 }
 

@@ -1,21 +1,20 @@
 -- The places of plans one after another: where plan i starts and ends, which plans the bytes hold, and what stands there.
 --     columns-within, start-first, start-next, start-order   a plan's bytes, and the starts one after another
 --     count-held, held-count, start-whole                    the plans that the bytes hold are those below `planCount`
---     plan-column, plan-size, plan-part                      what plan i is
+--     plan-place, plan-column, plan-mask, plan-size          what plan i is
+--     plan-part, plan-only                                   .. as a part of the bytes, and where it is all of them
 use Prim.Native.Nat.{ℕ, suc, _+_, _*_, _-_, _/_, _≤_, _<_}
-use mathlib.Core.Path.{_≡_, refl, sym, ap, _∙_}
-use mathlib.Core.Logic.{by-cases}
+use mathlib.Core.Path.{_≡_, sym, ap, _∙_}
 use mathlib.Core.List.{List}
-use native.Mathlib.Decide.{ℕ-discrete}
-use native.Mathlib.Nat.{mul-le-mul-right, zero-mul, suc-mul, mul-zero, div-mul-le-self, le-div-iff-mul-le, mul-div-cancel}
+use native.Mathlib.Nat.{mul-le-mul-right, zero-mul, suc-mul, div-mul-le-self, le-div-iff-mul-le, mul-div-cancel}
 use native.Mathlib.Omega.{arith}
 use lib.ListN.{length, getD, take, drop, length-drop}
-use lib.Seq.{length-take-le, getD-take, getD-drop}
-use Rattle.regular.specs.PlanBytes.{planBytes, planStart, planAt, HasPlan, planCount}
+use lib.Seq.{length-take-le, take-all, getD-take, getD-drop}
+use Rattle.regular.specs.PlanBytes.{byteValues, planBytes, maskIn, planStart, planAt, HasPlan, planCount}
 
 -- the columns of a plan are among its bytes
 pub columns-within : (n : ℕ) → n ≤ planBytes n
-columns-within n = let e : planBytes n ≡ n = refl in omega (arith, e)
+columns-within n = omega arith
 
 -- the first plan starts at 0, and plan i ends where the next starts
 pub start-first : (n : ℕ) → planStart n 0 ≡ 0
@@ -39,23 +38,22 @@ held-count n len i some h = le-div-iff-mul-le {k = planBytes n} {x = suc i} {y =
 
 -- bytes that are whole plans end where the count says
 pub start-whole : (n len count : ℕ) → len ≡ planStart n count → len ≡ planStart n (planCount n len)
-start-whole n len count e = by-cases (ℕ-discrete (planBytes n) 0) none some
-  where
-    none : planBytes n ≡ 0 → len ≡ planStart n (planCount n len)
-    none z =
-        let low : planStart n count ≡ 0 = ap (λ (k : ℕ). count * k) z ∙ mul-zero count in
-        let top : planStart n (planCount n len) ≡ 0 = ap (λ (k : ℕ). planCount n len * k) z ∙ mul-zero (planCount n len) in
-        omega (arith, low, top, e)
+start-whole n len count e =
+    let same : planCount n len ≡ count = ap (λ (k : ℕ). k / planBytes n) e ∙ mul-div-cancel count (omega arith) in
+    e ∙ ap (planStart n) (sym same)
 
-    some : (planBytes n ≡ 0 → ⊥) → len ≡ planStart n (planCount n len)
-    some nz =
-        let same : planCount n len ≡ count = ap (λ (k : ℕ). k / planBytes n) e ∙ mul-div-cancel count (omega arith) in
-        e ∙ ap (planStart n) (sym same)
+-- the bytes of plan i: its columns and its mask
+pub plan-place : (n : ℕ) (bytes : List ℕ) (i f : ℕ) → f < planBytes n → getD (planAt n bytes i) f 0 ≡ getD bytes (planStart n i + f) 0
+plan-place n bytes i f h = getD-take (planBytes n) (drop (planStart n i) bytes) f 0 h ∙ getD-drop (planStart n i) bytes f 0
 
--- the bytes of plan i
 pub plan-column : (n : ℕ) (bytes : List ℕ) (i f : ℕ) → f < n → getD (planAt n bytes i) f 0 ≡ getD bytes (planStart n i + f) 0
-plan-column n bytes i f h =
-    getD-take (planBytes n) (drop (planStart n i) bytes) f 0 (omega (arith, columns-within n)) ∙ getD-drop (planStart n i) bytes f 0
+plan-column n bytes i f h = plan-place n bytes i f (omega (arith, columns-within n))
+
+pub plan-mask : (n : ℕ) (bytes : List ℕ) (i : ℕ)
+    → maskIn n (planAt n bytes i) ≡ getD bytes (planStart n i + n) 0 + byteValues * getD bytes (planStart n i + suc n) 0
+plan-mask n bytes i =
+    ap (λ (x : ℕ). x + byteValues * getD (planAt n bytes i) (suc n) 0) (plan-place n bytes i n (omega arith))
+    ∙ ap (λ (x : ℕ). getD bytes (planStart n i + n) 0 + byteValues * x) (plan-place n bytes i (suc n) (omega arith))
 
 pub plan-size : (n : ℕ) (bytes : List ℕ) (i : ℕ) → HasPlan n bytes i → length (planAt n bytes i) ≡ planBytes n
 plan-size n bytes i h =
@@ -67,3 +65,7 @@ pub plan-part : (n : ℕ) (bytes : List ℕ) (i start end : ℕ) → start ≡ p
 plan-part n bytes i start end s e =
     let size : end - start ≡ planBytes n = omega (arith, s, e, start-next n i) in
     ap (λ (k : ℕ). take k (drop start bytes)) size ∙ ap (λ (k : ℕ). take (planBytes n) (drop k bytes)) s
+
+-- .. and all of them, if there are as many as a plan takes
+pub plan-only : (n : ℕ) (bytes : List ℕ) → length bytes ≡ planBytes n → planAt n bytes 0 ≡ bytes
+plan-only n bytes h = ap (λ (k : ℕ). take (planBytes n) (drop k bytes)) (start-first n) ∙ take-all (planBytes n) bytes (omega (arith, h))

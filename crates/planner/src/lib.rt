@@ -2,12 +2,11 @@
 // same contract. include/planner.h says what each one means.
 ghost use mathlib.Core.Path.{_≡_};
 ghost use Prim.Native.Nat.{_-_, _^_};
-ghost use lib.ListN.{getD};
-ghost use Rattle.regular.specs.Runs.{switched};
-ghost use Rattle.regular.specs.Words.{Reduced};
-ghost use Rattle.regular.specs.Columns.{Listed, RunsOfPlan, StandardColumns};
+ghost use Rattle.regular.specs.Columns.{ListedWith, RunsOfPlan};
+ghost use Rattle.regular.specs.PlanBytes.{maskIn};
 ghost use Rattle.regular.specs.Refusals.{either, Lowest};
 ghost use Rattle.regular.specs.Given.{ofWords, ofRuns, ofColumns, FillsFor};
+ghost use Rattle.regular.specs.Forms.{StandardInto, WordsInto};
 ghost use Rattle.regular.specs.Measures.{PatternInto, ResolutionInto, DistancesInto, ChoosesLess};
 ghost use Rattle.regular.specs.Comparisons.{Compares, ChecksWitness, Told, comparedNumber, checkedNumber};
 ghost use Rattle.regular.specs.SmallestAnswers.{ReducesInto, ReducesEach};
@@ -20,47 +19,65 @@ use regular::Checked;
 use regular::Compared;
 use regular::FormAnswer;
 use regular::ReadAnswer;
+use regular::SignsAnswer;
 
-// Words to columns.
+// Words and signs to columns.
 #[no_mangle]
-pub extern "C" fn plan_columns_of_words(n: usize, g: usize, words: &[u16], columns: &mut [u8]) -> u8
-    ensures { λ r. ⌜ FillsFor (ofWords n g (now (words .entry))) n (StandardColumns n (n - g)) (now (columns .entry)) (now (columns .exit)) r ⌝ }
+pub extern "C" fn plan_columns_of_words(
+    n: usize,
+    g: usize,
+    words: &[u16],
+    signs: u16,
+    plan: &mut [u8],
+) -> u8
+    ensures { λ r. ⌜ StandardInto n g (ofWords n g (now (words .entry)) signs) (now (plan .entry)) (now (plan .exit)) r ⌝ }
 {
-    forms::columns_of_words(n, g, words, columns)
+    forms::columns_of_words(n, g, words, signs, plan)
 }
 
 // Run table to columns.
 #[no_mangle]
-pub extern "C" fn plan_columns_of_runs(n: usize, g: usize, runs: &[u16], columns: &mut [u8]) -> u8
-    ensures { λ r. ⌜ FillsFor (ofRuns n g (now (runs .entry))) n (λ s. StandardColumns n (n - g) (switched (getD (now (runs .entry)) 0 0) s))
-        (now (columns .entry)) (now (columns .exit)) r ⌝ }
+pub extern "C" fn plan_columns_of_runs(n: usize, g: usize, runs: &[u16], plan: &mut [u8]) -> u8
+    ensures { λ r. ⌜ StandardInto n g (ofRuns n g (now (runs .entry))) (now (plan .entry)) (now (plan .exit)) r ⌝ }
 {
-    forms::columns_of_runs(n, g, runs, columns)
+    forms::columns_of_runs(n, g, runs, plan)
 }
 
-// Columns to words.
+// Columns to words and signs.
 #[no_mangle]
-pub extern "C" fn plan_words_of_columns(n: usize, g: usize, columns: &[u8], words: &mut [u16]) -> u8
-    ensures { λ r. ⌜ FillsFor (ofColumns n g (now (columns .entry))) g (Reduced n g) (now (words .entry)) (now (words .exit)) r ⌝ }
+pub extern "C" fn plan_words_of_columns(
+    n: usize,
+    g: usize,
+    plan: &[u8],
+    words: &mut [u16],
+) -> SignsAnswer
+    ensures { λ r. ⌜ WordsInto n g (ofColumns n g (now (plan .entry))) (now (words .entry)) (now (words .exit)) r ⌝ }
 {
-    forms::words_of_columns(n, g, columns, words)
+    forms::words_of_columns(n, g, plan, words)
 }
 
 // Columns to run table.
 #[no_mangle]
-pub extern "C" fn plan_runs_of_columns(n: usize, g: usize, columns: &[u8], runs: &mut [u16]) -> u8
-    ensures { λ r. ⌜ FillsFor (ofColumns n g (now (columns .entry))) (2 ^ (n - g)) (λ _. Listed n (n - g) (now (columns .entry))) (now (runs .entry))
-        (now (runs .exit)) r ⌝ }
+pub extern "C" fn plan_runs_of_columns(n: usize, g: usize, plan: &[u8], runs: &mut [u16]) -> u8
+    ensures { λ r. ⌜ FillsFor (ofColumns n g (now (plan .entry))) (2 ^ (n - g))
+        (λ _. ListedWith n (n - g) (now (plan .entry)) (maskIn n (now (plan .entry)))) (now (runs .entry)) (now (runs .exit)) r ⌝ }
 {
-    forms::list_runs_of_columns(n, g, columns, runs)
+    forms::list_runs_of_columns(n, g, plan, runs)
 }
 
-// Words to run table.
+// Words and signs to run table.
 #[no_mangle]
-pub extern "C" fn plan_runs_of_words(n: usize, g: usize, words: &[u16], runs: &mut [u16]) -> u8
-    ensures { λ r. ⌜ FillsFor (ofWords n g (now (words .entry))) (2 ^ (n - g)) (RunsOfPlan n (n - g) Listed) (now (runs .entry)) (now (runs .exit)) r ⌝ }
+pub extern "C" fn plan_runs_of_words(
+    n: usize,
+    g: usize,
+    words: &[u16],
+    signs: u16,
+    runs: &mut [u16],
+) -> u8
+    ensures { λ r. ⌜ FillsFor (ofWords n g (now (words .entry)) signs) (2 ^ (n - g)) (RunsOfPlan n (n - g) ListedWith) (now (runs .entry))
+        (now (runs .exit)) r ⌝ }
 {
-    forms::list_runs_of_words(n, g, words, runs)
+    forms::list_runs_of_words(n, g, words, signs, runs)
 }
 
 // The pattern, lengths 1 to n.
@@ -95,11 +112,12 @@ pub extern "C" fn plan_pattern_of_words(
     n: usize,
     g: usize,
     words: &[u16],
+    signs: u16,
     pattern: &mut [u16],
 ) -> u8
-    ensures { λ r. ⌜ PatternInto n (ofWords n g (now (words .entry))) (now (pattern .entry)) (now (pattern .exit)) r ⌝ }
+    ensures { λ r. ⌜ PatternInto n (ofWords n g (now (words .entry)) signs) (now (pattern .entry)) (now (pattern .exit)) r ⌝ }
 {
-    measures::pattern_of_words(n, g, words, pattern)
+    measures::pattern_of_words(n, g, words, signs, pattern)
 }
 
 // The distance counts, 0 to n.
@@ -108,11 +126,12 @@ pub extern "C" fn plan_distances_of_words(
     n: usize,
     g: usize,
     words: &[u16],
+    signs: u16,
     counts: &mut [u16],
 ) -> u8
-    ensures { λ r. ⌜ DistancesInto n (ofWords n g (now (words .entry))) (now (counts .entry)) (now (counts .exit)) r ⌝ }
+    ensures { λ r. ⌜ DistancesInto n (ofWords n g (now (words .entry)) signs) (now (counts .entry)) (now (counts .exit)) r ⌝ }
 {
-    measures::distances_of_words(n, g, words, counts)
+    measures::distances_of_words(n, g, words, signs, counts)
 }
 
 // The pattern, lengths 1 to n.
@@ -150,11 +169,12 @@ pub extern "C" fn plan_resolution_of_words(
     n: usize,
     g: usize,
     words: &[u16],
+    signs: u16,
     resolution: &mut [u8],
 ) -> u8
-    ensures { λ r. ⌜ ResolutionInto n (ofWords n g (now (words .entry))) (now (resolution .entry)) (now (resolution .exit)) r ⌝ }
+    ensures { λ r. ⌜ ResolutionInto n (ofWords n g (now (words .entry)) signs) (now (resolution .entry)) (now (resolution .exit)) r ⌝ }
 {
-    measures::list_resolution_of_words(n, g, words, resolution)
+    measures::list_resolution_of_words(n, g, words, signs, resolution)
 }
 
 // The resolution, in one place.
@@ -170,10 +190,10 @@ pub extern "C" fn plan_resolution_of_runs(
     measures::list_resolution_of_runs(n, g, runs, resolution)
 }
 
-// Which of two lists of words has less aberration: 1 the first, 2 the second, 0 if refused.
+// Which of two lists of words, taken without signs, has less aberration: 1 the first, 2 the second, 0 if refused.
 #[no_mangle]
 pub extern "C" fn plan_less_aberration(n: usize, g: usize, first: &[u16], second: &[u16]) -> u8
-    ensures { λ r. ⌜ ChoosesLess n (n - g) (ofWords n g (now (first .entry))) (ofWords n g (now (second .entry))) r ⌝ }
+    ensures { λ r. ⌜ ChoosesLess n (n - g) (ofWords n g (now (first .entry)) 0) (ofWords n g (now (second .entry)) 0) r ⌝ }
 {
     aberration::choice(n, g, first, second)
 }
@@ -181,7 +201,7 @@ pub extern "C" fn plan_less_aberration(n: usize, g: usize, first: &[u16], second
 // The number of its refusal.
 #[no_mangle]
 pub extern "C" fn plan_aberration_refusal(n: usize, g: usize, first: &[u16], second: &[u16]) -> u8
-    ensures { λ r. ⌜ Lowest (either (ofWords n g (now (first .entry)) .faults) (ofWords n g (now (second .entry)) .faults)) r ⌝ }
+    ensures { λ r. ⌜ Lowest (either (ofWords n g (now (first .entry)) 0 .faults) (ofWords n g (now (second .entry)) 0 .faults)) r ⌝ }
 {
     aberration::aberration_refusal(n, g, first, second)
 }
@@ -285,7 +305,7 @@ pub extern "C" fn plan_smallest_of_runs(
     smallest_calls::list_smallest_of_runs(n, g, runs, list, smallest, witness)
 }
 
-// The smallest forms of several plans one after another, and the names of a witness to each.
+// The smallest forms of several plans one after another, and a witness to each.
 #[no_mangle]
 pub extern "C" fn plan_smallest_of_plans(
     n: usize,
@@ -299,7 +319,7 @@ pub extern "C" fn plan_smallest_of_plans(
     smallest_calls::smallest_of_plans(n, g, plans, forms, witnesses)
 }
 
-// The catalogue, n columns an entry, one after another.
+// The catalogue, entry after entry as plans.
 #[no_mangle]
 pub extern "C" fn plan_catalogue(
     n: usize,
@@ -326,7 +346,7 @@ pub extern "C" fn plan_write_book(
     book::write_book(n, g, r, plans, book)
 }
 
-// The entries of a book, n columns an entry, one after another.
+// The entries of a book, one after another as plans.
 #[no_mangle]
 pub extern "C" fn plan_read_book(book: &[u8], columns: &mut [u8]) -> ReadAnswer
     ensures { λ a. ⌜ ReadsPlans (now (book .entry)) (now (columns .entry)) (now (columns .exit)) a ⌝ }

@@ -10,7 +10,8 @@ use lib.ListN.{length, getD}
 use Rattle.gf2.specs.Answers.{Tells}
 use Rattle.gf2.specs.Truth.{clash, told}
 use Rattle.regular.specs.Accepted.{accepted-sizes}
-use Rattle.regular.specs.Book.{byteValues, headerKind, headerLength, columnsLength, bookLength}
+use Rattle.regular.specs.Book.{headerKind, headerLength, columnsLength, bookLength}
+use Rattle.regular.specs.PlanBytes.{byteValues}
 use Rattle.regular.specs.InTurn.{Check, InTurn}
 use Rattle.regular.specs.InTurnLaws.{turn-zero, refuses, goes-on}
 use Rattle.regular.specs.Refusals.{Lowest, sizeFaults}

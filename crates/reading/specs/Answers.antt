@@ -4,7 +4,8 @@ use mathlib.Core.Path.{_≡_}
 use mathlib.Core.Bool.{Bool, true, false}
 use mathlib.Core.List.{List, []}
 use lib.ListN.{length, getD}
-use Rattle.regular.specs.Book.{byteValues, columnsLength, bookLength, mostPlans}
+use Rattle.regular.specs.Book.{columnsLength, bookLength, mostPlans}
+use Rattle.regular.specs.PlanBytes.{byteValues}
 use Rattle.regular.specs.Pattern.{ofLength}
 use Rattle.regular.specs.Reading.{EntriesChecks, factorsIn, generatorsIn, resolutionIn, countIn, columnsIn}
 use Rattle.regular.specs.ReadingAnswers.{refusedBook}
@@ -57,8 +58,9 @@ pub record Judged (book : List ℕ) (header : ReadAnswer) (room : Bool) (a : Rea
   pub entries : header .number ≡ 0 → room ≡ true
       → Answered (EntriesChecks (factorsIn book) (generatorsIn book) (resolutionIn book) book 0 (countIn book)) book a
 
--- the record of entry i, by the header's numbers
+-- the record of entry i, by the header's numbers, without switches
 pub record DesignIn (a : ReadAnswer) (book : List ℕ) (i : ℕ) (d : Design) : Type 0 where
   pub factors : d .factors ≡ a .factors
   pub basics : d .basics ≡ a .factors - a .generators
   pub columns : (f : ℕ) → getD (d .columns) f 0 ≡ getD (columnsIn (a .factors) book i) f 0
+  pub unswitched : d .mask ≡ 0

@@ -10,7 +10,7 @@ use lib.ListN.{length, getD, drop, set, length-set, length-take, List·getD-eq-d
 use lib.Seq.{getD-set-same, getD-set-other, drop-set-lt, drop-drop}
 use Rattle.regular.specs.Book.{bookLength, mostPlans, entryOfColumns}
 use Rattle.regular.specs.Designs.{Holds, designOf, blank}
-use Rattle.regular.specs.PlanBytes.{planBytes, planStart, planAt, HasPlan}
+use Rattle.regular.specs.PlanBytes.{planBytes, planStart, planAt, HasPlan, maskIn}
 use Rattle.regular.specs.Reading.{Reading, columnsIn}
 use Rattle.regular.specs.ReadingAnswers.{Taken, Reads, placesOf, ReadsPlans, ReadsDesigns}
 use Rattle.regular.specs.Smallest.{Equal, Entry}
@@ -60,9 +60,10 @@ filled-reads takes columns first a book before now x i all f = record {
 past-columns : (n : ℕ) (book : List ℕ) (i f : ℕ) → n ≤ f → getD (columnsIn n book i) f 0 ≡ 0
 past-columns n book i f h = List·getD-eq-default (columnsIn n book i) 0 (omega (arith, length-take n (drop (suc (bookLength n i)) book)))
 
--- in a list of bytes
-abbrev pub FilledPlans : ReadAnswer → List ℕ → List ℕ → List ℕ → ℕ → Type 0
-FilledPlans = FilledEntries planStart planAt
+-- in a list of bytes, without switches
+pub record FilledPlans (a : ReadAnswer) (book before now : List ℕ) (i : ℕ) : Type 0 where
+  pub filled : FilledEntries planStart planAt a book before now i
+  pub unswitched : (j : ℕ) → j < i → maskIn (a .factors) (planAt (a .factors) now j) ≡ 0
 
 module _ (a : ReadAnswer) (book before now : List ℕ) (i : ℕ) (x : Answered (Reading planStart (length before) book) book a)
     (f : FilledPlans a book before now i) (h : i < a .count) where
@@ -72,37 +73,47 @@ module _ (a : ReadAnswer) (book before now : List ℕ) (i : ℕ) (x : Answered (
       let e = not-refused planStart (length before) book a x i h in
       let all = said x e (λ n _ _ count. planStart n count ≤ length before)
       (read-room planStart (length before) book (taken-reading planStart (length before) book a x e)) in
-      omega (arith, all, f .size, start-order (a .factors) (suc i) (a .count) h)
+      omega (arith, all, f .filled .size, start-order (a .factors) (suc i) (a .count) h)
 
   later : drop (planStart (a .factors) (suc i)) now ≡ drop (planStart (a .factors) (suc i)) before
   later =
       let n = a .factors in
       let k = planStart n i in
-      ap (λ (j : ℕ). drop j now) (start-next n i) ∙ sym (drop-drop (planBytes n) k now) ∙ ap (drop (planBytes n)) (f .rest)
+      ap (λ (j : ℕ). drop j now) (start-next n i) ∙ sym (drop-drop (planBytes n) k now) ∙ ap (drop (planBytes n)) (f .filled .rest)
       ∙ drop-drop (planBytes n) k before ∙ ap (λ (j : ℕ). drop j before) (sym (start-next n i))
 
-  pub plan-more : {n : ℕ} {columns after : List ℕ} → n ≡ a .factors → Equal n columns (columnsIn n book i) → PlanPut n columns i now after
+  pub plan-more : {n : ℕ} {columns after : List ℕ} → n ≡ a .factors → Equal n columns (columnsIn n book i) → PlanPut n columns 0 i now after
       → FilledPlans a book before after (i + 1)
   plan-more {n} {columns} {after} is same put = more (subst (λ (n : ℕ). Equal n columns (columnsIn n book i)) is same)
-      (subst (λ (n : ℕ). PlanPut n columns i now after) is put)
+      (subst (λ (n : ℕ). PlanPut n columns 0 i now after) is put)
     where
-      more : Equal (a .factors) columns (columnsIn (a .factors) book i) → PlanPut (a .factors) columns i now after → FilledPlans a book before after (i + 1)
+      more : Equal (a .factors) columns (columnsIn (a .factors) book i) → PlanPut (a .factors) columns 0 i now after → FilledPlans a book before after (i + 1)
       more e p = record {
-        within = omega arith;
-        entries = λ j l. by-cases (ℕ-discrete j i)
-            (λ q. subst (λ (k : ℕ). Equal (a .factors) (columnsIn (a .factors) book k) (planAt (a .factors) after k)) (sym q)
-            (λ g b. sym (p .plan g b ∙ e g b)))
-            (λ ne. subst (Equal (a .factors) (columnsIn (a .factors) book j)) (sym (p .earlier j (omega arith))) (f .entries j (omega arith)));
-        rest = subst (λ (k : ℕ). drop (planStart (a .factors) k) after ≡ drop (planStart (a .factors) k) before) (sym (add-one i)) (p .rest ∙ later);
-        size = p .size ∙ f .size;
+        filled = record {
+          within = omega arith;
+          entries = λ j l. by-cases (ℕ-discrete j i)
+              (λ q. subst (λ (k : ℕ). Equal (a .factors) (columnsIn (a .factors) book k) (planAt (a .factors) after k)) (sym q)
+              (λ g b. sym (p .plan g b ∙ e g b)))
+              (λ ne. subst (Equal (a .factors) (columnsIn (a .factors) book j)) (sym (p .earlier j (omega arith))) (f .filled .entries j (omega arith)));
+          rest = subst (λ (k : ℕ). drop (planStart (a .factors) k) after ≡ drop (planStart (a .factors) k) before) (sym (add-one i)) (p .rest ∙ later);
+          size = p .size ∙ f .filled .size;
+        };
+        unswitched = λ j l. by-cases (ℕ-discrete j i) (λ q. ap (λ (k : ℕ). maskIn (a .factors) (planAt (a .factors) after k)) q ∙ p .mask)
+            (λ ne. ap (maskIn (a .factors)) (p .earlier j (omega arith)) ∙ f .unswitched j (omega arith));
       }
 
 pub filled-no-plans : (a : ReadAnswer) (book before : List ℕ) → FilledPlans a book before before 0
-filled-no-plans a book before = record { within = omega arith; entries = λ j h. absurd (omega arith); rest = refl; size = refl }
+filled-no-plans a book before = record {
+  filled = record { within = omega arith; entries = λ j h. absurd (omega arith); rest = refl; size = refl };
+  unswitched = λ j h. absurd (omega arith);
+}
 
 pub plans-read : (a : ReadAnswer) (book before now : List ℕ) → Answered (Reading planStart (length before) book) book a → (i : ℕ) → a .count ≤ i
     → FilledPlans a book before now i → ReadsPlans book before now a
-plans-read = filled-reads planStart planAt start-first
+plans-read a book before now x i all f = record {
+  reads = filled-reads planStart planAt start-first a book before now x i all (f .filled);
+  unswitched = λ j h. f .unswitched j (omega arith);
+}
 
 -- in a list of design records
 pub record FilledDesigns (a : ReadAnswer) (book : List ℕ) (before now : List Design) (i : ℕ) : Type 0 where
@@ -156,6 +167,7 @@ module _ (book : List ℕ) (ys : List Design) (a : ReadAnswer) (x : Answered (Re
             basics = d .basics;
             columns = reads .taken (not-refused placesOf (length ys) book a x j l) .entries j l;
             unused = λ g past _. d .columns g ∙ past-columns (a .factors) book j g past;
+            unswitched = d .unswitched;
           }
 
 -- the record of entry i, as it is made
@@ -166,4 +178,5 @@ design-made a book i n g c columns d sizes e same is = record {
   basics = ap (λ (x : Design). x .basics) is ∙ ap₂ _-_ (sizes .0) (sizes .1);
   columns = λ f. ap (λ (x : Design). getD (x .columns) f 0) is ∙ same f ∙ ap (λ (l : List ℕ). getD l f 0) e
       ∙ ap (λ (k : ℕ). getD (columnsIn k book i) f 0) (sizes .0);
+  unswitched = ap (λ (x : Design). x .mask) is;
 }

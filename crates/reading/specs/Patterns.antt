@@ -13,16 +13,16 @@ use Rattle.regular.specs.Pattern.{Pattern, ofLength}
 use Rattle.regular.specs.Book.{lowFirst, each, patternKind, patternLength}
 use Rattle.regular.specs.InTurn.{Check}
 use Rattle.regular.specs.InTurnLaws.{refuses, goes-on}
-use Rattle.regular.specs.Given.{ofColumns}
+use Rattle.regular.specs.Given.{ofBare}
 use Rattle.regular.specs.Reading.{RecordAt, columnsIn, patternPlace, PatternChecks}
 use Rattle.regular.specs.ReadingLaws.{record-zero}
-use Rattle.regular.specs.Refusals.{columnsFaults}
+use Rattle.regular.specs.Refusals.{bareFaults}
 use Rattle.regular.specs.RefusalLaws.{lowest-none, lowest-unique, none-lowest}
 use Rattle.regular.specs.Smallest.{IsEntry}
 use Rattle.regular.specs.declared.Admitted.{Admitted}
 use Rattle.admission.specs.Admission.{Admission, Ready, ready}
 use Rattle.measures.specs.Measured.{pattern-given}
-use Rattle.plan_lists.specs.Judged.{columnsWanted}
+use Rattle.plan_lists.specs.Judged.{bareWanted}
 use Rattle.entry_test.specs.Testing.{entry-accepted}
 use Rattle.book.specs.EntryLaws.{each-same, pattern-same}
 use Rattle.reading_laws.specs.Cuts.{each-cut, each-part}
@@ -65,11 +65,11 @@ module _ (counts book : List ℕ) (at k : ℕ) (room : at + k * 2 ≤ length boo
           ∙ each-part number 2 k (λ j l. refl) i h
 
 -- an entry is admitted
-module _ (n g r : ℕ) (c : List ℕ) (is : IsEntry n g r c) (a : Admitted) (ad : Admission n g (ofColumns n g c) a) where
+module _ (n g r : ℕ) (c : List ℕ) (is : IsEntry n g r c) (a : Admitted) (ad : Admission n g (ofBare n g c) a) where
   admitted : a .number ≡ 0
   admitted =
-      lowest-unique (columnsFaults n g c) (a .number) 0 (ad .lowest)
-      (lowest-none (columnsFaults n g c) (λ k f. none-lowest (columnsWanted n g r c) (entry-accepted n g r c is) k (inl f)))
+      lowest-unique (bareFaults n g c) (a .number) 0 (ad .lowest)
+      (lowest-none (bareFaults n g c) (λ k f. none-lowest (bareWanted n g r c) (entry-accepted n g r c is) k (inl f)))
 
   pub entry-ready : Ready n g (a .columns)
   entry-ready = ready ad admitted

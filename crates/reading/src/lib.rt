@@ -167,7 +167,7 @@ fn pattern_number(n: usize, g: usize, book: &[u8], i: usize) -> u8
     if number != 0 {
         return number;
     }
-    let plan = admission::admit_columns(n, g, columns_in(n, book, i));
+    let plan = admission::admit_bare(n, g, columns_in(n, book, i));
     let standard = plan.columns;
     let counts = measures::pattern(n, g, standard);
     if !has_counts(n, counts, book, at + 1) {
@@ -330,7 +330,7 @@ pub fn list_book(book: &[u8], out: &mut [u8]) -> ReadAnswer
     let mut i: usize = 0;
     while i < answer.count {
         let columns = array_of(columns_in(n, book, i));
-        put_plan(n, columns, i, out);
+        put_plan(n, columns, 0, i, out);
         i += 1;
     }
     answer

@@ -1,16 +1,21 @@
--- The book of a catalogue: listed, written and read, a catalogue comes back as it was.
+-- The book of a catalogue: listed as bytes, it can be handed to the writer as it is; and listed, written and read, a catalogue comes back as it was.
 use Prim.Native.Nat.{ℕ, _-_, _≤_, _<_}
+use mathlib.Core.Bool.{true}
 use mathlib.Core.Path.{_≡_, refl, sym, ap, subst, _∙_}
+use mathlib.Core.Logic.{inl}
 use mathlib.Core.List.{List}
 use native.Mathlib.Omega.{arith}
 use lib.ListN.{length, getD, take}
 use lib.Seq.{length-take-le, getD-take}
+use Rattle.regular.specs.Accepted.{accepted-sizes}
 use Rattle.regular.specs.Designs.{blank}
+use Rattle.regular.specs.Refusals.{Lowest}
+use Rattle.regular.specs.RefusalLaws.{none-lowest}
 use Rattle.regular.specs.PlanBytes.{planStart, planAt, planCount}
 use Rattle.regular.specs.PlanLists.{wantedPlansFaults}
 use Rattle.regular.specs.Smallest.{Equal, Catalogue}
-use Rattle.regular.specs.Book.{WritesPlans, WritesDesigns}
-use Rattle.regular.specs.Catalogues.{ListsBytes, ListsDesigns}
+use Rattle.regular.specs.Book.{bookFaults, bookLength, mostPlans, WritesPlans, WritesDesigns}
+use Rattle.regular.specs.Catalogues.{catalogueFaults, ListsBytes, ListsDesigns}
 use Rattle.regular.specs.ReadingAnswers.{ReadsPlans, ReadsDesigns}
 use Rattle.regular.specs.declared.Design.{Design}
 use Rattle.regular.specs.declared.ReadAnswer.{ReadAnswer}
@@ -18,7 +23,8 @@ use Rattle.plan_lists.specs.Accepted.{plans-accepted}
 use Rattle.smallest_laws.specs.Dictionary.{equal-sym}
 use Rattle.smallest_laws.specs.Growth.{entry-equal}
 use Rattle.reading_laws.specs.Taken.{before-like}
-use Rattle.reading_laws.specs.Lists.{front-plan, front-count}
+use Rattle.reading_laws.specs.Lists.{front-plan, front-mask, front-count}
+use Rattle.reading_laws.specs.Accepted.{plans-faultless, writer-takes}
 use Rattle.reading_laws.specs.WriteRead.{EntriesRise, writer-accepts, AsWritten, write-read-plans, FullColumns, write-read-designs}
 
 -- a catalogue's entries rise, in whichever list they stand
@@ -32,6 +38,23 @@ module _ {n m r count : ℕ} {columns : ℕ → List ℕ} (c : Catalogue n m r c
       back : (i : ℕ) → i < count → Equal n (columns i) (others i)
       back i h = equal-sym n (others i) (columns i) (same i h)
 
+-- the writer takes a catalogue's bytes, where the header can count its entries and the bytes of the book have room
+pub catalogue-taken-plans : (n g r count : ℕ) (lent list : List ℕ) → ListsBytes n g r lent list 0 count
+    → (out : List ℕ) → count ≤ mostPlans → bookLength n count ≤ length out
+    → Lowest (bookFaults (wantedPlansFaults n g r true (take (planStart n count) list)) n (planCount n (length (take (planStart n count) list))) out) 0
+catalogue-taken-plans n g r count lent list c out few room =
+    let fits : planStart n count ≤ length list = omega (arith, c .catalogues .fits refl, c .size) in
+    let sized = accepted-sizes n g r (λ k f. none-lowest (catalogueFaults n g r (λ k. planStart n k ≤ length lent)) (c .catalogues .lowest) k (inl f)) in
+    let plans : List ℕ = take (planStart n count) list in
+    let counted : planCount n (length plans) ≡ count = front-count n count list (sized .size .some) fits in
+    let inside : (i : ℕ) → i < planCount n (length plans) → i < count = λ i h. omega (arith, counted) in
+    writer-takes (wantedPlansFaults n g r true plans) n (planCount n (length plans)) out
+    (plans-faultless n g r count plans sized (length-take-le (planStart n count) list fits)
+    (λ i h. entry-equal n (n - g) (planAt n list i) (planAt n plans i)
+    (equal-sym n (planAt n plans i) (planAt n list i) (front-plan n count list i (inside i h))) r (c .catalogues .whole refl .sound i (inside i h)))
+    (λ i h. front-mask n count list i (inside i h) ∙ c .unswitched i (inside i h)))
+    (omega (arith, counted)) (subst (λ (k : ℕ). bookLength n k ≤ length out) (sym counted) room)
+
 -- as bytes
 pub catalogue-read-plans : (n g r count : ℕ) (lent list : List ℕ) → ListsBytes n g r lent list 0 count
     → (out exit : List ℕ) (used : ℕ) → WritesPlans n g r (take (planStart n count) list) out exit 0 used
@@ -41,7 +64,7 @@ catalogue-read-plans n g r count lent list c out exit used w before after a rd r
     let fits : planStart n count ≤ length list = omega (arith, c .catalogues .fits refl, c .size) in
     let plans : List ℕ = take (planStart n count) list in
     let long : length plans ≡ planStart n count = length-take-le (planStart n count) list fits in
-    let ok = plans-accepted n g r plans (writer-accepts (wantedPlansFaults n g r plans) n (planCount n (length plans)) out (w .lowest)) in
+    let ok = plans-accepted n g r plans (writer-accepts (wantedPlansFaults n g r true plans) n (planCount n (length plans)) out (w .lowest)) in
     let counted : planCount n (length plans) ≡ count = front-count n count list (ok .bounds .size .some) fits in
     let x : EntriesRise n (n - g) r (planCount n (length plans)) (planAt n plans) =
     subst (λ (k : ℕ). EntriesRise n (n - g) r k (planAt n plans)) (sym counted)

@@ -1,6 +1,7 @@
 -- Read, then write: what was read is written as it was, and the writer takes it where its bytes have room.
 use Prim.Native.Nat.{ℕ, _-_, _≤_, _<_}
-use mathlib.Core.Path.{_≡_, refl, sym, ap, subst}
+use mathlib.Core.Bool.{true}
+use mathlib.Core.Path.{_≡_, refl, sym, ap, subst, _∙_}
 use mathlib.Core.List.{List}
 use native.Mathlib.Omega.{arith}
 use lib.ListN.{length, getD, take}
@@ -8,10 +9,10 @@ use lib.Seq.{length-take-le, getD-take}
 use Rattle.regular.specs.Designs.{blank, Holds}
 use Rattle.regular.specs.RefusalLaws.{lowest-unique}
 use Rattle.regular.specs.Refusals.{Lowest}
-use Rattle.regular.specs.PlanBytes.{planStart, planAt, planCount}
+use Rattle.regular.specs.PlanBytes.{byteValues, planStart, planAt, planCount}
 use Rattle.regular.specs.PlanLists.{wantedRecordsFaults, wantedPlansFaults}
 use Rattle.regular.specs.Smallest.{Equal, Entry}
-use Rattle.regular.specs.Book.{byteValues, bookFaults, bookLength, Book, Writes, WritesPlans, WritesDesigns}
+use Rattle.regular.specs.Book.{bookFaults, bookLength, Book, Writes, WritesPlans, WritesDesigns}
 use Rattle.regular.specs.ReadingAnswers.{Taken, ReadsPlans, ReadsDesigns}
 use Rattle.regular.specs.declared.Design.{Design}
 use Rattle.regular.specs.declared.ReadAnswer.{ReadAnswer}
@@ -19,7 +20,7 @@ use Rattle.smallest_laws.specs.Dictionary.{equal-sym}
 use Rattle.smallest_laws.specs.Growth.{entry-equal}
 use Rattle.book.specs.EntryLaws.{book-unique}
 use Rattle.reading_laws.specs.Taken.{entriesOf, book-like}
-use Rattle.reading_laws.specs.Lists.{front-plan, front-count}
+use Rattle.reading_laws.specs.Lists.{front-plan, front-mask, front-count}
 use Rattle.reading_laws.specs.Accepted.{designs-faultless, plans-faultless, writer-takes, book-few}
 
 -- the written entries are those that were read, in whichever list they stand: one book
@@ -41,23 +42,24 @@ designsRead a after = take (a .count) after
 -- plans as bytes
 module _ (book before after : List ℕ) (a : ReadAnswer) (rd : ReadsPlans book before after a) (e : a .number ≡ 0) where
   fits : planStart (a .factors) (a .count) ≤ length after
-  fits = omega (arith, rd .room e, rd .size)
+  fits = omega (arith, rd .reads .room e, rd .reads .size)
 
   counted : planCount (a .factors) (length (plansRead a after)) ≡ a .count
-  counted = front-count (a .factors) (a .count) after (rd .taken e .sized .size .some) fits
+  counted = front-count (a .factors) (a .count) after (rd .reads .taken e .sized .size .some) fits
 
   -- the writer takes them
   writer-takes-plans : getD book 5 0 < byteValues → (out : List ℕ) → bookLength (a .factors) (a .count) ≤ length out
-      → Lowest (bookFaults (wantedPlansFaults (a .factors) (a .generators) (a .resolution) (plansRead a after)) (a .factors)
+      → Lowest (bookFaults (wantedPlansFaults (a .factors) (a .generators) (a .resolution) true (plansRead a after)) (a .factors)
       (planCount (a .factors) (length (plansRead a after))) out) 0
   writer-takes-plans low out room =
       let n = a .factors in
-      let t = rd .taken e in
-      writer-takes (wantedPlansFaults n (a .generators) (a .resolution) (plansRead a after)) n (planCount n (length (plansRead a after))) out
+      let t = rd .reads .taken e in
+      writer-takes (wantedPlansFaults n (a .generators) (a .resolution) true (plansRead a after)) n (planCount n (length (plansRead a after))) out
       (plans-faultless n (a .generators) (a .resolution) (a .count) (plansRead a after) (t .sized) (length-take-le (planStart n (a .count)) after fits)
       (λ i h. let l : i < a .count = omega (arith, counted) in
       entry-equal n (n - a .generators) (planAt n after i) (planAt n (plansRead a after) i)
-      (equal-sym n (planAt n (plansRead a after) i) (planAt n after i) (front-plan n (a .count) after i l)) (a .resolution) (t .entries i l)))
+      (equal-sym n (planAt n (plansRead a after) i) (planAt n after i) (front-plan n (a .count) after i l)) (a .resolution) (t .entries i l))
+      (λ i h. let l : i < a .count = omega (arith, counted) in front-mask n (a .count) after i l ∙ rd .unswitched i l))
       (omega (arith, counted, book-few (t .is) low)) (subst (λ (k : ℕ). bookLength n k ≤ length out) (sym counted) room)
 
   -- and writes the book that was read
@@ -65,10 +67,10 @@ module _ (book before after : List ℕ) (a : ReadAnswer) (rd : ReadsPlans book b
       → WritesPlans (a .factors) (a .generators) (a .resolution) (plansRead a after) out exit number used → (number ≡ 0) × (take used exit ≡ book)
   read-write-plans low out exit number used room w =
       let k = planCount (a .factors) (length (plansRead a after)) in
-      let zero = lowest-unique (bookFaults (wantedPlansFaults (a .factors) (a .generators) (a .resolution) (plansRead a after)) (a .factors) k out)
+      let zero = lowest-unique (bookFaults (wantedPlansFaults (a .factors) (a .generators) (a .resolution) true (plansRead a after)) (a .factors) k out)
       number 0 (w .lowest) (writer-takes-plans low out room) in (
         zero,
-        read-write (rd .taken e) k counted (front-plan (a .factors) (a .count) after)
+        read-write (rd .reads .taken e) k counted (front-plan (a .factors) (a .count) after)
             (subst (λ (j : ℕ). WritesPlans (a .factors) (a .generators) (a .resolution) (plansRead a after) out exit j used) zero w),
       )
 
@@ -82,12 +84,12 @@ module _ (book : List ℕ) (before after : List Design) (a : ReadAnswer) (rd : R
 
   -- the writer takes them
   writer-takes-designs : getD book 5 0 < byteValues → (out : List ℕ) → bookLength (a .factors) (a .count) ≤ length out
-      → Lowest (bookFaults (wantedRecordsFaults (a .factors) (a .generators) (a .resolution) (designsRead a after)) (a .factors)
+      → Lowest (bookFaults (wantedRecordsFaults (a .factors) (a .generators) (a .resolution) true (designsRead a after)) (a .factors)
       (length (designsRead a after)) out) 0
   writer-takes-designs low out room =
       let n = a .factors in
       let t = rd .reads .taken e in
-      writer-takes (wantedRecordsFaults n (a .generators) (a .resolution) (designsRead a after)) n (length (designsRead a after)) out
+      writer-takes (wantedRecordsFaults n (a .generators) (a .resolution) true (designsRead a after)) n (length (designsRead a after)) out
       (designs-faultless n (a .generators) (a .resolution) (designsRead a after) (t .sized)
       (λ i h. let l : i < a .count = omega (arith, long) in
       subst (Holds n (n - a .generators) (Entry n (n - a .generators) (a .resolution))) (sym (here i l)) (rd .records i l)))
@@ -98,7 +100,7 @@ module _ (book : List ℕ) (before after : List Design) (a : ReadAnswer) (rd : R
       → WritesDesigns (a .factors) (a .generators) (a .resolution) (designsRead a after) out exit number used → (number ≡ 0) × (take used exit ≡ book)
   read-write-designs low out exit number used room w =
       let k = length (designsRead a after) in
-      let zero = lowest-unique (bookFaults (wantedRecordsFaults (a .factors) (a .generators) (a .resolution) (designsRead a after)) (a .factors) k out)
+      let zero = lowest-unique (bookFaults (wantedRecordsFaults (a .factors) (a .generators) (a .resolution) true (designsRead a after)) (a .factors) k out)
       number 0 (w .lowest) (writer-takes-designs low out room) in (
         zero,
         read-write (rd .reads .taken e) k long (λ i h f l. ap (λ (d : Design). getD (d .columns) f 0) (here i h))

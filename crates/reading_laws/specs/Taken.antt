@@ -14,7 +14,8 @@ use Rattle.regular.specs.RefusalLaws.{none-lowest}
 use Rattle.regular.specs.Accepted.{accepted-sizes, sizes-accepted}
 use Rattle.regular.specs.Columns.{planOf}
 use Rattle.regular.specs.Smallest.{Before, Equal}
-use Rattle.regular.specs.Book.{byteValues, each, headerKind, headerLength, header, columnsLength, entryLength, bookLength}
+use Rattle.regular.specs.Book.{each, headerKind, headerLength, header, columnsLength, entryLength, bookLength}
+use Rattle.regular.specs.PlanBytes.{byteValues}
 use Rattle.regular.specs.Book.{BookEntry, entryOfColumns, EntryBytes, Book}
 use Rattle.regular.specs.InTurn.{Check, InTurn}
 use Rattle.regular.specs.InTurnLaws.{turn-zero, check-zero}

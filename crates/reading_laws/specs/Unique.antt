@@ -1,6 +1,6 @@
 -- The reader's promise leaves nothing open: for one book and one lent list there is one answer, and one list after it.
 use Prim.Native.Nat.{ℕ, _-_, _<_}
-use mathlib.Core.Path.{_≡_, sym, ap, ap₂, subst₂, _∙_}
+use mathlib.Core.Path.{_≡_, sym, ap, ap₂, subst, subst₂, _∙_}
 use mathlib.Core.Logic.{by-cases}
 use mathlib.Core.List.{List, _++_}
 use native.Mathlib.Decide.{ℕ-discrete}
@@ -9,7 +9,7 @@ use lib.ListN.{length, getD, take, drop, take-append-drop}
 use lib.Seq.{length-take-le, getD-take}
 use Rattle.regular.specs.Book.{entryOfColumns}
 use Rattle.regular.specs.Designs.{Holds, blank}
-use Rattle.regular.specs.PlanBytes.{planStart, planAt}
+use Rattle.regular.specs.PlanBytes.{planStart, planAt, maskIn}
 use Rattle.regular.specs.ReadingAnswers.{Reads, ReadsPlans, ReadsDesigns, placesOf, refusedBook}
 use Rattle.regular.specs.Smallest.{Equal, Entry}
 use Rattle.regular.specs.declared.Design.{Design}
@@ -60,8 +60,10 @@ module _ {A : Type 0} (takes : ℕ → ℕ → ℕ) (place : ℕ → List A → 
 
 -- plans as bytes
 pub reads-plans-one : (book before x y : List ℕ) (a b : ReadAnswer) → ReadsPlans book before x a → ReadsPlans book before y b → (a ≡ b) × (x ≡ y)
-reads-plans-one book before x y a b p q = reads-one planStart planAt book before x y a b p q
-    (λ e w same. plans-same (a .factors) (a .count) y x (omega (arith, p .room e, q .size)) (omega (arith, p .room e, p .size)) same)
+reads-plans-one book before x y a b p q = reads-one planStart planAt book before x y a b (p .reads) (q .reads)
+    (λ e w same. plans-same (a .factors) (a .count) y x (omega (arith, p .reads .room e, q .reads .size))
+    (omega (arith, p .reads .room e, p .reads .size)) same
+    (λ i h. subst (λ (n : ℕ). maskIn n (planAt n y i) ≡ 0) (w .factors) (q .unswitched i (omega (arith, w .entries)))) (p .unswitched))
 
 -- design records, of sixteen columns each
 pub reads-designs-one : (book : List ℕ) (before x y : List Design) (a b : ReadAnswer) → ReadsDesigns book before x a → ReadsDesigns book before y b

@@ -1,5 +1,6 @@
 -- Write, then read: entries that rise and were written are read back as they were.
 use Prim.Native.Nat.{ℕ, _-_, _≤_, _<_}
+use mathlib.Core.Bool.{true}
 use mathlib.Core.Path.{_≡_, refl, sym, ap, subst, subst₂, _∙_}
 use mathlib.Core.List.{List}
 use native.Mathlib.Omega.{arith}
@@ -9,7 +10,7 @@ use Rattle.regular.specs.Sizes.{Sized}
 use Rattle.regular.specs.Designs.{Holds, blank}
 use Rattle.regular.specs.Refusals.{LentFault, either, Lowest}
 use Rattle.regular.specs.GivenLaws.{lowest-left}
-use Rattle.regular.specs.PlanBytes.{planStart, planAt, planCount}
+use Rattle.regular.specs.PlanBytes.{planStart, planAt, planCount, maskIn}
 use Rattle.regular.specs.PlanLists.{wantedRecordsFaults, wantedPlansFaults}
 use Rattle.regular.specs.Smallest.{Before, Equal, Entry}
 use Rattle.regular.specs.Book.{bookLength, bookFaults, CountFault, entryOfColumns, Writes, WritesPlans, WritesDesigns}
@@ -17,6 +18,7 @@ use Rattle.regular.specs.Reading.{columnsIn}
 use Rattle.regular.specs.ReadingAnswers.{Taken, Reads, ReadsPlans, placesOf, ReadsDesigns}
 use Rattle.regular.specs.declared.Design.{Design}
 use Rattle.regular.specs.declared.ReadAnswer.{ReadAnswer}
+use Rattle.plan_layout.specs.Places.{count-held}
 use Rattle.plan_lists.specs.Accepted.{records-accepted, plans-accepted}
 use Rattle.smallest_laws.specs.Dictionary.{equal-sym, equal-trans}
 use Rattle.reading_laws.specs.Number.{reading-one}
@@ -81,13 +83,15 @@ pub write-read-plans : (n g r : ℕ) (plans out exit : List ℕ) (used : ℕ) �
     → AsWritten n g r (planCount n (length plans)) a × (take (length plans) after ≡ plans)
 write-read-plans n g r plans out exit used w x before after a rd room =
     let count = planCount n (length plans) in
-    let ok = plans-accepted n g r plans (writer-accepts (wantedPlansFaults n g r plans) n count out (w .lowest)) in
+    let ok = plans-accepted n g r plans (writer-accepts (wantedPlansFaults n g r true plans) n count out (w .lowest)) in
     let whole : length plans ≡ planStart n count = ok .whole in
-    let back = gives-back planStart planAt n g r count (planAt n plans) (take used exit) before after a (written-taken (ok .bounds) x w) rd
+    let back = gives-back planStart planAt n g r count (planAt n plans) (take used exit) before after a (written-taken (ok .bounds) x w) (rd .reads)
     (omega (arith, whole)) in (
       back .0,
       ap (λ (k : ℕ). take k after) whole
-          ∙ plans-same n count after plans (omega (arith, whole, rd .size)) (omega (arith, whole)) (back .1)
+          ∙ plans-same n count after plans (omega (arith, whole, rd .reads .size)) (omega (arith, whole)) (back .1)
+          (λ i h. subst (λ (k : ℕ). maskIn k (planAt k after i) ≡ 0) (back .0 .factors) (rd .unswitched i (omega (arith, back .0 .entries))))
+          (λ i h. ok .bare i (count-held n (length plans) i h))
           ∙ ap (λ (k : ℕ). take k plans) (sym whole)
           ∙ take-length plans,
     )
@@ -104,7 +108,7 @@ pub write-read-designs : (n g r : ℕ) (list : List Design) (out exit : List ℕ
     → AsWritten n g r (length list) a × (take (length list) after ≡ list)
 write-read-designs n g r list out exit used w x before after a rd room full also =
     let columns : List Design → ℕ → List ℕ = λ l i. getD l i blank .columns in
-    let ok = records-accepted n g r list (writer-accepts (wantedRecordsFaults n g r list) n (length list) out (w .lowest)) in
+    let ok = records-accepted n g r list (writer-accepts (wantedRecordsFaults n g r true list) n (length list) out (w .lowest)) in
     let back = gives-back placesOf (λ n. columns) n g r (length list) (columns list) (take used exit) before after a (written-taken (ok .bounds) x w)
     (rd .reads) room in (
       back .0,
@@ -112,5 +116,5 @@ write-read-designs n g r list out exit used w x before after a rd room full also
           (λ i h. designs-equal n (n - g) (getD after i blank) (getD list i blank) (also i h) (full i h)
           (subst₂ (λ (k j : ℕ). Holds k (k - j) (Entry k (k - j) (a .resolution)) (getD after i blank)) (back .0 .factors) (back .0 .generators)
           (rd .records i (omega (arith, back .0 .entries))))
-          (accepted-holds n g (Entry n (n - g) r) (getD list i blank) (ok .plan i h) (x .entries i h)) (back .1 i h)),
+          (accepted-holds n g (Entry n (n - g) r) (getD list i blank) (ok .plan i h) (ok .bare i h) (x .entries i h)) (back .1 i h)),
     )

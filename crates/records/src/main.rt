@@ -12,10 +12,11 @@ use regular::DesignAnswer;
 use regular::FACTORS;
 use regular::ResolutionAnswer;
 use regular::RunsAnswer;
+use regular::SignsAnswer;
 use regular::SmallestAnswer;
 
-// The numbers of a record: two counts and sixteen columns.
-const RECORD: usize = 18;
+// The numbers of a record: two counts, sixteen columns and a mask.
+const RECORD: usize = 19;
 
 // The places of a list of which some are lent.
 const LENT: usize = 20;
@@ -71,12 +72,17 @@ fn read_line(line: &mut [u16]) -> usize
     count
 }
 
-// The number at place p of a list as a byte, 0 past its end.
-fn byte_at(list: &[u16], p: usize) -> u8 {
+// The number at place p of a list, 0 past its end.
+fn number_at(list: &[u16], p: usize) -> u16 {
     if list.len() <= p {
         return 0;
     }
-    (list[p] % 256) as u8
+    list[p]
+}
+
+// .. as a byte.
+fn byte_at(list: &[u16], p: usize) -> u8 {
+    (number_at(list, p) % 256) as u8
 }
 
 // The numbers from place p on as bytes.
@@ -90,7 +96,7 @@ fn copy_bytes(list: &[u16], p: usize, bytes: &mut [u8])
     }
 }
 
-// The record in the eighteen numbers from place p on.
+// The record in the nineteen numbers from place p on.
 fn design_at(list: &[u16], p: usize) -> Design
     requires { ⌜ p ≤ 500 ⌝ }
 {
@@ -98,7 +104,8 @@ fn design_at(list: &[u16], p: usize) -> Design
     copy_bytes(list, p + 2, &mut columns);
     let factors = bits::as_index(byte_at(list, p));
     let basics = bits::as_index(byte_at(list, p + 1));
-    plan_layout::design(factors, basics, columns)
+    let mask = number_at(list, p + RECORD - 1);
+    plan_layout::design_with(factors, basics, columns, mask)
 }
 
 // A number after a space.
@@ -146,6 +153,7 @@ fn print_design(d: Design) {
     print_number(b" basics", d.basics as u64);
     let columns = d.columns;
     print_bytes(b" columns", &columns);
+    print_number(b" mask", d.mask as u64);
 }
 
 fn print_design_answer(answer: DesignAnswer) {
@@ -160,14 +168,20 @@ fn print_runs(answer: RunsAnswer) {
     print_numbers(b" runs", &runs);
 }
 
+fn print_signs(answer: SignsAnswer) {
+    print_number(b" number", answer.number as u64);
+    print_number(b" signs", answer.signs as u64);
+}
+
 fn print_resolution(answer: ResolutionAnswer) {
     print_number(b" number", answer.number as u64);
     print_number(b" resolution", answer.resolution as u64);
 }
 
+// The switches of the witness, and the smallest form.
 fn print_smallest(answer: SmallestAnswer) {
     print_number(b" number", answer.number as u64);
-    print_number(b" mask", answer.mask as u64);
+    print_number(b" switches", answer.mask as u64);
     print_number(b" place", answer.place as u64);
     let design = answer.design;
     print_design(design);
@@ -181,26 +195,26 @@ fn print_compared(answer: Compared) {
     }
 }
 
-// The calls on a list of words or runs.
-fn call_on_list(call: usize, n: usize, g: usize, list: &[u16]) {
+// The calls on a list of words with signs, or of runs.
+fn call_on_list(call: usize, n: usize, g: usize, signs: u16, list: &[u16]) {
     match call {
-        1 => print_design_answer(forms::design_of_words(n, g, list)),
+        1 => print_design_answer(forms::design_of_words(n, g, list, signs)),
         2 => print_design_answer(forms::design_of_runs(n, g, list)),
-        3 => print_runs(forms::runs_of_words(n, g, list)),
-        4 => print_resolution(measures::resolution_of_words(n, g, list)),
+        3 => print_runs(forms::runs_of_words(n, g, list, signs)),
+        4 => print_resolution(measures::resolution_of_words(n, g, list, signs)),
         _ => print_resolution(measures::resolution_of_runs(n, g, list)),
     }
 }
 
-// .. or of columns.
+// .. or of the bytes of a plan.
 fn resolution_of_columns(n: usize, g: usize, list: &[u16]) {
-    let mut columns = [0u8; LENT];
-    copy_bytes(list, 0, &mut columns);
+    let mut plan = [0u8; LENT];
+    copy_bytes(list, 0, &mut plan);
     let count = list.len();
     if LENT < count {
         return;
     }
-    print_resolution(measures::resolution_of_columns(n, g, &columns[..count]));
+    print_resolution(measures::resolution_of_columns(n, g, &plan[..count]));
 }
 
 // Whether columns are an entry of the catalogue of n, g and r: 1 if so, else 0.
@@ -224,12 +238,14 @@ fn less_aberration(n: usize, g: usize, k: usize, list: &[u16]) {
     print_numbers(b" list", better);
 }
 
-// The calls on a record that fill a lent list of words or counts.
-fn fill_numbers(call: usize, n: usize, g: usize, d: Design, out: &mut [u16]) -> u8 {
+// The calls on a record that fill a lent list: of words, whose signs are printed, or of counts.
+fn fill_numbers(call: usize, n: usize, g: usize, d: Design, out: &mut [u16]) {
     if call == 9 {
-        return forms::words_of_design(n, g, d, out);
+        print_signs(forms::words_of_design(n, g, d, out));
+        return;
     }
-    measures::distances_of_design(n, g, d, out)
+    let number = measures::distances_of_design(n, g, d, out);
+    print_number(b" number", number as u64);
 }
 
 // The same with k places lent; what it answers, and the whole list after it.
@@ -238,8 +254,7 @@ fn call_for_numbers(call: usize, n: usize, g: usize, k: usize, d: Design) {
     if LENT < k {
         return;
     }
-    let number = fill_numbers(call, n, g, d, &mut out[..k]);
-    print_number(b" number", number as u64);
+    fill_numbers(call, n, g, d, &mut out[..k]);
     print_lent_numbers(out);
 }
 
@@ -274,11 +289,12 @@ fn answer(line: &[u16])
     let call = wide(line[0]);
     let n = wide(line[1]);
     let g = wide(line[2]);
-    let k = wide(line[3]);
+    let signs = line[3];
+    let k = wide(signs);
     let list = &line[4..];
     io::print_decimal(STDOUT_FILENO, call as u64);
     match call {
-        1..=5 => call_on_list(call, n, g, list),
+        1..=5 => call_on_list(call, n, g, signs, list),
         6 => resolution_of_columns(n, g, list),
         7 => less_aberration(n, g, k, list),
         8 => print_runs(forms::runs_of_design(n, g, design_at(list, 0))),

@@ -1,21 +1,18 @@
 -- The book: its records, the book of a list of plans, and what its writer answers (document 01, "The book" and the table). Definitions only.
 -- A record is one byte of kind, then a body whose length the kind fixes. Numbers of 16 bits stand low byte first.
 use Prim.Native.Nat.{ℕ, zero, suc, _+_, _*_, _-_, _/_, _%_, _<_}
+use mathlib.Core.Bool.{true}
 use mathlib.Core.Path.{_≡_}
 use mathlib.Core.List.{List, [], _∷_, _++_}
 use lib.ListN.{length, getD, take, drop}
 use Rattle.regular.specs.Runs.{Runs}
+use Rattle.regular.specs.Columns.{planOf}
 use Rattle.regular.specs.Designs.{blank}
 use Rattle.regular.specs.Pattern.{Pattern, ofLength}
 use Rattle.regular.specs.Refusals.{LentFault, either, Lowest}
-use Rattle.regular.specs.Given.{ofColumns, ofDesign}
-use Rattle.regular.specs.PlanBytes.{planAt, planCount}
+use Rattle.regular.specs.PlanBytes.{byteValues, planAt, planCount}
 use Rattle.regular.specs.PlanLists.{wantedRecordsFaults, wantedPlansFaults}
 use Rattle.regular.specs.declared.Design.{Design}
-
--- how many values a byte has
-abbrev pub byteValues : ℕ
-byteValues = 256
 
 -- 16 bits, low byte first
 abbrev pub lowFirst : ℕ → List ℕ
@@ -69,12 +66,12 @@ pub record BookEntry : Type 1 where
   pub columns : List ℕ
   pub plan : Runs
 
--- of a plan given as n columns, and as a design record
+-- of a plan given as n columns, and as a design record. A book has no masks: an entry stands for the plan that its columns give
 abbrev pub entryOfColumns : ℕ → ℕ → List ℕ → BookEntry
-entryOfColumns n g c = record { columns = c; plan = ofColumns n g c .plan }
+entryOfColumns n g c = record { columns = c; plan = planOf n (n - g) c }
 
 abbrev pub entryOfDesign : ℕ → ℕ → Design → BookEntry
-entryOfDesign n g d = record { columns = d .columns; plan = ofDesign n g d .plan }
+entryOfDesign n g d = record { columns = d .columns; plan = planOf n (n - g) (d .columns) }
 
 -- the bytes of an entry: its columns, and the pattern of its plan
 pub record EntryBytes (n : ℕ) (entry : BookEntry) (bytes : List ℕ) : Type 0 where
@@ -118,10 +115,10 @@ pub record Writes (plans : ℕ → Type 0) (n g r count : ℕ) (entry : ℕ → 
   pub rest : drop used after ≡ drop used before
   pub size : length after ≡ length before
 
--- of plans as bytes, and of design records
+-- of plans as bytes, and of design records, which must be bare of switches
 abbrev pub WritesPlans : ℕ → ℕ → ℕ → List ℕ → List ℕ → List ℕ → ℕ → ℕ → Type 0
 WritesPlans n g r plans =
-    Writes (wantedPlansFaults n g r plans) n g r (planCount n (length plans)) (λ i. entryOfColumns n g (planAt n plans i))
+    Writes (wantedPlansFaults n g r true plans) n g r (planCount n (length plans)) (λ i. entryOfColumns n g (planAt n plans i))
 
 abbrev pub WritesDesigns : ℕ → ℕ → ℕ → List Design → List ℕ → List ℕ → ℕ → ℕ → Type 0
-WritesDesigns n g r list = Writes (wantedRecordsFaults n g r list) n g r (length list) (λ i. entryOfDesign n g (getD list i blank))
+WritesDesigns n g r list = Writes (wantedRecordsFaults n g r true list) n g r (length list) (λ i. entryOfDesign n g (getD list i blank))

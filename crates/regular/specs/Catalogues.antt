@@ -4,7 +4,7 @@ use mathlib.Core.List.{List}
 use Prim.Native.Nat.{ℕ, suc, _-_, _≤_, _<_}
 use lib.ListN.{length, getD, drop}
 use Rattle.regular.specs.Designs.{Holds, blank}
-use Rattle.regular.specs.PlanBytes.{planStart, planAt}
+use Rattle.regular.specs.PlanBytes.{planStart, planAt, maskIn}
 use Rattle.regular.specs.Refusals.{Lowest, RoomFault, either, sizeFaults}
 use Rattle.regular.specs.Smallest.{Equal, Entry, Catalogue}
 use Rattle.regular.specs.declared.Design.{Design}
@@ -28,13 +28,14 @@ pub record Catalogues (n g r : ℕ) (room : ℕ → Type 0) (entry : ℕ → Lis
   pub begins : number ≡ 9 → Begins n (n - g) r room entry count
   pub none : 0 < number → number < 9 → count ≡ 0
 
--- a list of bytes, entry i at plan i; from `before` to `after`, untouched past the entries
+-- a list of bytes, entry i at plan i, without switches; from `before` to `after`, untouched past the entries
 pub record ListsBytes (n g r : ℕ) (before after : List ℕ) (number count : ℕ) : Type 0 where
   pub catalogues : Catalogues n g r (λ k. planStart n k ≤ length before) (planAt n after) number count
+  pub unswitched : (i : ℕ) → i < count → maskIn n (planAt n after i) ≡ 0
   pub rest : drop (planStart n count) after ≡ drop (planStart n count) before
   pub size : length after ≡ length before
 
--- a list of design records, each of n factors and n - g basics, its columns an entry and those past n zero
+-- a list of design records, each of n factors and n - g basics, its columns an entry and those past n zero, without switches
 pub record ListsDesigns (n g r : ℕ) (before after : List Design) (number count : ℕ) : Type 0 where
   pub catalogues : Catalogues n g r (λ k. k ≤ length before) (λ i. getD after i blank .columns) number count
   pub records : (i : ℕ) → i < count → Holds n (n - g) (Entry n (n - g) r) (getD after i blank)

@@ -5,9 +5,10 @@ use mathlib.Core.Path.{_≡_}
 use mathlib.Core.List.{List}
 use lib.ListN.{getD}
 use Rattle.regular.specs.Runs.{Runs, runsOf}
-use Rattle.regular.specs.Words.{Generated}
-use Rattle.regular.specs.Columns.{planOf}
-use Rattle.regular.specs.Refusals.{LentFault, either, wordsFaults, runsFaults, designFaults, columnsFaults, Gives, Fills}
+use Rattle.regular.specs.Words.{Fraction}
+use Rattle.regular.specs.Columns.{planOf, planWith, Allowed}
+use Rattle.regular.specs.PlanBytes.{maskIn}
+use Rattle.regular.specs.Refusals.{LentFault, either, wordsFaults, runsFaults, designFaults, columnsFaults, bareFaults, Gives, Fills}
 use Rattle.regular.specs.declared.Design.{Design}
 
 -- its faults, by number; its set of runs; and `start x`, that x is the run it starts from: distances are counted from it, and a witness without
@@ -17,15 +18,24 @@ pub record Given : Type 1 where
   pub plan : Runs
   pub start : ℕ → Type 0
 
--- the plan that words generate, of n columns and of a design record start from the run in which every factor is high, a table from its first run
-abbrev pub ofWords : ℕ → ℕ → List ℕ → Given
-ofWords n g ws = record { faults = wordsFaults n g ws; plan = Generated n g ws; start = λ x. x ≡ 0 }
+-- the plan of words and signs starts from the run that it allows as a mask, that of a plan's bytes and of a design record from their mask, a table from
+-- its first run
+abbrev pub ofWords : ℕ → ℕ → List ℕ → ℕ → Given
+ofWords n g ws signs = record {
+  faults = wordsFaults n g ws signs;
+  plan = Fraction n g ws signs;
+  start = λ x. Fraction n g ws signs x × Allowed n (Fraction n g ws signs) x;
+}
 
 abbrev pub ofColumns : ℕ → ℕ → List ℕ → Given
-ofColumns n g c = record { faults = columnsFaults n g c; plan = planOf n (n - g) c; start = λ x. x ≡ 0 }
+ofColumns n g c = record { faults = columnsFaults n g c; plan = planWith n (n - g) c (maskIn n c); start = λ x. x ≡ maskIn n c }
 
 abbrev pub ofDesign : ℕ → ℕ → Design → Given
-ofDesign n g d = record { faults = designFaults n g d; plan = planOf n (n - g) (d .columns); start = λ x. x ≡ 0 }
+ofDesign n g d = record { faults = designFaults n g d; plan = planWith n (n - g) (d .columns) (d .mask); start = λ x. x ≡ d .mask }
+
+-- n columns alone, as a book has them
+abbrev pub ofBare : ℕ → ℕ → List ℕ → Given
+ofBare n g c = record { faults = bareFaults n g c; plan = planOf n (n - g) c; start = λ x. x ≡ 0 }
 
 abbrev pub ofRuns : ℕ → ℕ → List ℕ → Given
 ofRuns n g t = record { faults = runsFaults n g t; plan = runsOf t; start = λ x. x ≡ getD t 0 0 }

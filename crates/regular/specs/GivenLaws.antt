@@ -1,9 +1,10 @@
 -- One given plan standing for another: what a call answers of the one holds of the other. And the plan of a record.
 use Prim.Native.Nat.{ℕ, _-_, _≤_}
-use mathlib.Core.Path.{_≡_, subst}
+use mathlib.Core.Path.{_≡_, sym, ap, subst, _∙_}
 use mathlib.Core.Logic.{inl, inr, ⊎-elim}
 use native.Mathlib.Omega.{arith}
 use mathlib.Core.List.{List}
+use lib.Bits.{bitXor, xor-zero-r}
 use Rattle.regular.specs.Runs.{Agree}
 use Rattle.regular.specs.Columns.{planOf}
 use Rattle.regular.specs.Designs.{Holds}
@@ -70,4 +71,7 @@ lowest-right F H l = lowest-none H (λ k f. none-lowest (either F H) l k (inr f)
 
 -- the plan of a record that holds columns is theirs
 pub holds-plan : {Wanted : List ℕ → Type 0} (n g : ℕ) (d : Design) → Holds n (n - g) Wanted d → Agree (ofDesign n g d .plan) (planOf n (n - g) (d .columns))
-holds-plan n g d h = record { into = λ x p. p; onto = λ x p. p }
+holds-plan n g d h =
+    let t = planOf n (n - g) (d .columns) in
+    let e : (x : ℕ) → bitXor x (d .mask) ≡ x = λ x. ap (bitXor x) (h .unswitched) ∙ xor-zero-r x in
+    record { into = λ x p. subst t (e x) p; onto = λ x p. subst t (sym (e x)) p }

@@ -9,7 +9,8 @@ use Rattle.regular.specs.Columns.{planOf}
 use Rattle.regular.specs.Pattern.{Pattern}
 use Rattle.regular.specs.Refusals.{Lowest, sizeFaults}
 use Rattle.regular.specs.Smallest.{Before, Entry}
-use Rattle.regular.specs.Book.{byteValues, headerKind, headerLength, columnsKind, columnsLength, patternKind, patternLength, patternRecord}
+use Rattle.regular.specs.Book.{headerKind, headerLength, columnsKind, columnsLength, patternKind, patternLength, patternRecord}
+use Rattle.regular.specs.PlanBytes.{byteValues}
 use Rattle.regular.specs.Book.{bookLength}
 
 -- a record of a kind and a length at a place: 10 if its kind byte is missing, 11 if that is another kind, 10 if its body is cut off

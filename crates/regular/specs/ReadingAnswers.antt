@@ -5,7 +5,7 @@ use mathlib.Core.List.{List}
 use lib.ListN.{length, getD, drop}
 use Rattle.regular.specs.Sizes.{Sized}
 use Rattle.regular.specs.Designs.{Holds, blank}
-use Rattle.regular.specs.PlanBytes.{planStart, planAt}
+use Rattle.regular.specs.PlanBytes.{planStart, planAt, maskIn}
 use Rattle.regular.specs.Smallest.{Before, Entry}
 use Rattle.regular.specs.Book.{BookEntry, entryOfColumns, entryOfDesign, Book}
 use Rattle.regular.specs.Reading.{Reading}
@@ -35,11 +35,12 @@ pub record Reads {A : Type 0} (takes : ℕ → ℕ → ℕ) (entry : ℕ → ℕ
   pub rest : drop (takes (answer .factors) (answer .count)) after ≡ drop (takes (answer .factors) (answer .count)) before
   pub size : length after ≡ length before
 
--- in a list of bytes entry i is plan i
-abbrev pub ReadsPlans : List ℕ → List ℕ → List ℕ → ReadAnswer → Type 0
-ReadsPlans = Reads planStart (λ n g plans i. entryOfColumns n g (planAt n plans i))
+-- in a list of bytes entry i is plan i, without switches
+pub record ReadsPlans (book before after : List ℕ) (answer : ReadAnswer) : Type 0 where
+  pub reads : Reads planStart (λ n g plans i. entryOfColumns n g (planAt n plans i)) book before after answer
+  pub unswitched : (i : ℕ) → i < answer .count → maskIn (answer .factors) (planAt (answer .factors) after i) ≡ 0
 
--- in a list of design records each is of n factors and n - g basics, its columns past n zero
+-- in a list of design records each is of n factors and n - g basics, its columns past n zero, without switches
 abbrev pub placesOf : ℕ → ℕ → ℕ
 placesOf n count = count
 

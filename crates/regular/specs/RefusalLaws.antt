@@ -7,7 +7,11 @@ use native.Mathlib.Omega.{arith}
 use native.Mathlib.Decide.{decLt}
 use lib.ListN.{length}
 use Rattle.regular.specs.Refusals.{SizeFault, ResolutionFault, WordsFault, ColumnsFault, ListFault, RecordFault, TableFault, LentFault}
-use Rattle.regular.specs.Refusals.{either, numbered, Lowest, wordsFaults, runsFaults, designFaults, columnsFaults}
+use Rattle.regular.specs.Refusals.{SignFault, MaskFault, maskedFaults}
+use Rattle.regular.specs.Refusals.{either, numbered, Lowest, wordsFaults, runsFaults, designFaults, columnsFaults, bareFaults}
+use Rattle.regular.specs.Runs.{Runs}
+use Rattle.regular.specs.Columns.{planOf}
+use Rattle.regular.specs.PlanBytes.{planBytes, maskIn}
 use Rattle.regular.specs.declared.Design.{Design}
 
 pub lowest-unique : (F : ℕ → Type 0) (a b : ℕ) → Lowest F a → Lowest F b → a ≡ b
@@ -138,19 +142,38 @@ lent-fits places out h = lowest-none (LentFault places out) never
 either-most : (F H : ℕ → Type 0) (most : ℕ) → ((k : ℕ) → F k → k ≤ most) → ((k : ℕ) → H k → k ≤ most) → (k : ℕ) → either F H k → k ≤ most
 either-most F H most f h k e = ⊎-elim (f k) (h k) e
 
-pub words-faults-most : (n g : ℕ) (ws : List ℕ) (k : ℕ) → wordsFaults n g ws k → k ≤ 7
-words-faults-most n g ws = either-most (SizeFault n g) (WordsFault n g ws) 7 (λ k f. omega (arith, size-most n g k f)) (words-most n g ws)
+pub sign-is : (g signs k : ℕ) → SignFault g signs k → k ≡ 5
+sign-is g signs k (SignFault.past h) = refl
+
+pub mask-is : (n : ℕ) (s : Runs) (mask k : ℕ) → MaskFault n s mask k → k ≡ 5
+mask-is n s mask k (MaskFault.barred h) = refl
+
+masked-most : (n m : ℕ) (c : List ℕ) (mask k : ℕ) → maskedFaults n m c mask k → k ≤ 7
+masked-most n m c mask =
+    either-most (ColumnsFault n m c) (MaskFault n (planOf n m c) mask) 7 (columns-most n m c) (λ k f. omega (arith, mask-is n (planOf n m c) mask k f))
+
+pub words-faults-most : (n g : ℕ) (ws : List ℕ) (signs k : ℕ) → wordsFaults n g ws signs k → k ≤ 7
+words-faults-most n g ws signs =
+    either-most (SizeFault n g) (either (WordsFault n g ws) (SignFault g signs)) 7 (λ k f. omega (arith, size-most n g k f))
+    (either-most (WordsFault n g ws) (SignFault g signs) 7 (words-most n g ws) (λ k f. omega (arith, sign-is g signs k f)))
 
 pub runs-faults-most : (n g : ℕ) (t : List ℕ) (k : ℕ) → runsFaults n g t k → k ≤ 7
 runs-faults-most n g t = either-most (SizeFault n g) (TableFault n (n - g) t) 7 (λ k f. omega (arith, size-most n g k f)) (table-most n (n - g) t)
 
 pub design-faults-most : (n g : ℕ) (d : Design) (k : ℕ) → designFaults n g d k → k ≤ 7
 design-faults-most n g d =
-    either-most (SizeFault n g) (either (RecordFault n (n - g) d) (ColumnsFault n (n - g) (d .columns))) 7 (λ k f. omega (arith, size-most n g k f))
-    (either-most (RecordFault n (n - g) d) (ColumnsFault n (n - g) (d .columns)) 7 (λ k f. omega (arith, record-most n (n - g) d k f))
-    (columns-most n (n - g) (d .columns)))
+    let columns = maskedFaults n (n - g) (d .columns) (d .mask) in
+    either-most (SizeFault n g) (either (RecordFault n (n - g) d) columns) 7 (λ k f. omega (arith, size-most n g k f))
+    (either-most (RecordFault n (n - g) d) columns 7 (λ k f. omega (arith, record-most n (n - g) d k f))
+    (masked-most n (n - g) (d .columns) (d .mask)))
 
 pub columns-faults-most : (n g : ℕ) (c : List ℕ) (k : ℕ) → columnsFaults n g c k → k ≤ 7
 columns-faults-most n g c =
+    let columns = maskedFaults n (n - g) c (maskIn n c) in
+    either-most (SizeFault n g) (either (ListFault (planBytes n) c) columns) 7 (λ k f. omega (arith, size-most n g k f))
+    (either-most (ListFault (planBytes n) c) columns 7 (λ k f. omega (arith, list-is (planBytes n) c k f)) (masked-most n (n - g) c (maskIn n c)))
+
+pub bare-faults-most : (n g : ℕ) (c : List ℕ) (k : ℕ) → bareFaults n g c k → k ≤ 7
+bare-faults-most n g c =
     either-most (SizeFault n g) (either (ListFault n c) (ColumnsFault n (n - g) c)) 7 (λ k f. omega (arith, size-most n g k f))
     (either-most (ListFault n c) (ColumnsFault n (n - g) c) 7 (λ k f. omega (arith, list-is n c k f)) (columns-most n (n - g) c))

@@ -2,6 +2,7 @@
 -- Each argument of a call has its faults, by number; a call's faults are those of all its arguments, and the lowest is its answer.
 use Prim.Native.Nat.{ℕ, _-_, _^_, _≤_, _<_}
 use mathlib.Core.Path.{_≡_}
+use mathlib.Core.Bool.{Bool, true}
 use mathlib.Core.Logic.{_⊎_}
 use mathlib.Core.List.{List}
 use lib.ListN.{length, getD, take, drop}
@@ -9,7 +10,8 @@ use denote.Ref.{RefT}
 use Rattle.gf2.specs.Members.{In, Different}
 use Rattle.regular.specs.Runs.{Runs, runsOf, Regular}
 use Rattle.regular.specs.Words.{Word, letters, Generated, Independent}
-use Rattle.regular.specs.Columns.{planOf, Spans}
+use Rattle.regular.specs.Columns.{planOf, Spans, Allowed}
+use Rattle.regular.specs.PlanBytes.{planBytes, maskIn}
 use Rattle.regular.specs.Smallest.{Catalogue}
 use Rattle.regular.specs.declared.Design.{Design}
 
@@ -41,9 +43,21 @@ pub data ColumnsFault (n m : ℕ) (c : List ℕ) : ℕ → Type 0 where
   rank : (Spans n m c → ⊥) → ColumnsFault n m c 6
   short : Short n 3 (planOf n m c) → ColumnsFault n m c 7
 
--- 4: a list of columns
-pub data ListFault (n : ℕ) (c : List ℕ) : ℕ → Type 0 where
-  count : (length c ≡ n → ⊥) → ListFault n c 4
+-- 5: a sign from bit g up
+pub data SignFault (g signs : ℕ) : ℕ → Type 0 where
+  past : 2 ^ g ≤ signs → SignFault g signs 5
+
+-- 5: a switch mask that is not allowed: with a bit at a factor that is the last letter of no word, or past factor n
+pub data MaskFault (n : ℕ) (s : Runs) (mask : ℕ) : ℕ → Type 0 where
+  barred : (Allowed n s mask → ⊥) → MaskFault n s mask 5
+
+-- 5: a mask other than 0, where plans must be bare of switches
+pub data SwitchFault (bare : Bool) (mask : ℕ) : ℕ → Type 0 where
+  some : bare ≡ true → (mask ≡ 0 → ⊥) → SwitchFault bare mask 5
+
+-- 4: a list of other than k numbers
+pub data ListFault (k : ℕ) (c : List ℕ) : ℕ → Type 0 where
+  count : (length c ≡ k → ⊥) → ListFault k c 4
 
 -- 4, 5: a design record
 pub data RecordFault (n m : ℕ) (d : Design) : ℕ → Type 0 where
@@ -83,18 +97,25 @@ numbered x k = (0 < k) × (k ≡ x)
 abbrev pub sizeFaults : ℕ → ℕ → ℕ → ℕ → Type 0
 sizeFaults n g r = either (SizeFault n g) (ResolutionFault r)
 
--- the faults of a plan given by words, by a run table, by a design record, by a list of columns
-abbrev pub wordsFaults : ℕ → ℕ → List ℕ → ℕ → Type 0
-wordsFaults n g ws = either (SizeFault n g) (WordsFault n g ws)
+-- columns and a mask: the barred bits are those of the columns' plan, of whatever rank
+abbrev pub maskedFaults : ℕ → ℕ → List ℕ → ℕ → ℕ → Type 0
+maskedFaults n m c mask = either (ColumnsFault n m c) (MaskFault n (planOf n m c) mask)
+
+-- the faults of a plan given by words and signs, by a run table, by a design record, by its bytes, by n columns alone
+abbrev pub wordsFaults : ℕ → ℕ → List ℕ → ℕ → ℕ → Type 0
+wordsFaults n g ws signs = either (SizeFault n g) (either (WordsFault n g ws) (SignFault g signs))
 
 abbrev pub runsFaults : ℕ → ℕ → List ℕ → ℕ → Type 0
 runsFaults n g t = either (SizeFault n g) (TableFault n (n - g) t)
 
 abbrev pub designFaults : ℕ → ℕ → Design → ℕ → Type 0
-designFaults n g d = either (SizeFault n g) (either (RecordFault n (n - g) d) (ColumnsFault n (n - g) (d .columns)))
+designFaults n g d = either (SizeFault n g) (either (RecordFault n (n - g) d) (maskedFaults n (n - g) (d .columns) (d .mask)))
 
 abbrev pub columnsFaults : ℕ → ℕ → List ℕ → ℕ → Type 0
-columnsFaults n g c = either (SizeFault n g) (either (ListFault n c) (ColumnsFault n (n - g) c))
+columnsFaults n g c = either (SizeFault n g) (either (ListFault (planBytes n) c) (maskedFaults n (n - g) c (maskIn n c)))
+
+abbrev pub bareFaults : ℕ → ℕ → List ℕ → ℕ → Type 0
+bareFaults n g c = either (SizeFault n g) (either (ListFault n c) (ColumnsFault n (n - g) c))
 
 -- the answer's number: 0 if nothing is at fault, else the lowest number that applies
 pub record Lowest (fault : ℕ → Type 0) (r : ℕ) : Type 0 where

@@ -48,3 +48,15 @@ pub record Reduced (n g : ℕ) (s : Runs) (ws : List ℕ) : Type 0 where
   pub plan : Agree s (Generated n g ws)
   pub rising : (i j e f : ℕ) → i < j → j < g → Last e (getD ws i 0) → Last f (getD ws j 0) → e < f
   pub apart : (i j f : ℕ) → i < g → j < g → (i ≡ j → ⊥) → Last f (getD ws j 0) → bit f (getD ws i 0) ≡ 0
+
+-- the fraction of the first g words with their signs (document 02, request 5), bit i of `signs` for word i: the product of word i is − if its sign is
+-- 1, so that the word meets every run in an odd number of low levels, and + if it is 0
+pub record Fraction (n g : ℕ) (ws : List ℕ) (signs x : ℕ) : Type 0 where
+  pub within : x < 2 ^ n
+  pub product : (i : ℕ) → i < g → odd x (getD ws i 0) ≡ bit i signs
+
+-- the reduced words of a plan of g generators, and their signs
+pub record SignedWords (n g : ℕ) (s : Runs) (ws : List ℕ) (signs : ℕ) : Type 0 where
+  pub words : Reduced n g (Generated n g ws) ws
+  pub within : signs < 2 ^ g
+  pub plan : Agree s (Fraction n g ws signs)

@@ -13,18 +13,27 @@ pub const UNITS: usize = 8;
 // How many numbers a column may be: those of seven bits, one for each basic factor.
 pub const NUMBERS: usize = 128;
 
-// A design record: the factor count, the basic count and sixteen columns, those past the factor count being zero.
+// A design record: the factor count, the basic count, sixteen columns, those past the factor count being zero, and the switch mask, which is
+// exclusive-ored into each run.
 #[repr(C)]
 pub struct Design {
     pub factors: u8,
     pub basics: u8,
     pub columns: [u8; FACTORS],
+    pub mask: u16,
 }
 
 // A refusal's number, 0 if accepted, and the design; the blank design if refused.
 pub struct DesignAnswer {
     pub number: u8,
     pub design: Design,
+}
+
+// A refusal's number, 0 if accepted, and the signs of the words that a lent list holds, bit i for word i; 0 if refused.
+#[repr(C)]
+pub struct SignsAnswer {
+    pub number: u8,
+    pub signs: u16,
 }
 
 // A refusal's number, 0 if accepted, and the run table, its unused places zero; all zero if refused.

@@ -9,7 +9,7 @@ use native.Mathlib.Omega.{arith}
 use lib.ListN.{length, getD, take, drop, length-append, length-drop, List·getD-append}
 use lib.Seq.{length-take-le, take-at, drop-at, drop-drop, getD-take, getD-drop, ext-getD}
 use Rattle.regular.specs.Given.{ofColumns}
-use Rattle.regular.specs.PlanBytes.{planBytes, planStart, planAt, HasPlan, planCount}
+use Rattle.regular.specs.PlanBytes.{planBytes, planStart, planAt, HasPlan, planCount, maskIn}
 use Rattle.regular.specs.PlanLists.{plansFaults}
 use Rattle.regular.specs.Refusals.{Lowest, columnsFaults}
 use Rattle.regular.specs.Accepted.{accepted-size}
@@ -17,9 +17,10 @@ use Rattle.regular.specs.RefusalLaws.{lowest-none, none-lowest}
 use Rattle.regular.specs.SmallestAnswers.{Formed, ReducesEach, eachFaults}
 use Rattle.plan_layout.specs.Places.{start-first, start-next, start-order, count-held, held-count, plan-size}
 
--- the smallest form of the plan of the columns, and a witness to it, in lists of a plan's places
-pub record ReducedForm (n g : ℕ) (columns filled exit : List ℕ) : Type 0 where
-  pub form : Formed n (n - g) (ofColumns n g columns) filled exit 0
+-- the smallest form of the plan, without switches, and a witness to it, its names and its mask, in lists of a plan's places
+pub record ReducedForm (n g : ℕ) (plan filled exit : List ℕ) : Type 0 where
+  pub form : Formed n (n - g) (ofColumns n g plan) filled exit (maskIn n exit)
+  pub unswitched : maskIn n filled ≡ 0
   pub size : (length filled ≡ planBytes n) × (length exit ≡ planBytes n)
 
 -- .. of each of the first `count` plans, the lists being untouched past them
@@ -107,7 +108,7 @@ module _ (n g : ℕ) (plans : List ℕ) (low : Lowest (plansFaults n g plans) 0)
       pub reduced-fits : HasPlan n filled i × HasPlan n exit i
       reduced-fits = (omega (arith, reduced-there, room, t .size .0), omega (arith, reduced-there, place, t .size .1))
 
-      -- its form and the names of a witness, put there
+      -- its form and a witness, put there
       module _ (form names : List ℕ) (r : ReducedForm n g (planAt n plans i) form names) where
         abbrev forms-after : List ℕ
         forms-after = splice (planStart n i) (planBytes n) filled form
@@ -174,6 +175,7 @@ each-refused n g plans out entry k some low = record {
   lowest = low;
   untouched = λ _. (refl, refl);
   form = λ e. absurd (some e);
+  unswitched = λ e. absurd (some e);
   past = λ e. absurd (some e);
   size = (refl, refl);
 }
@@ -184,6 +186,7 @@ each-reduced n g plans out filled entry exit some low t = record {
   lowest = low;
   untouched = λ h. absurd (omega arith);
   form = λ _ i h. t .each i (held-count n (length plans) i some h) .form;
+  unswitched = λ _ i h. t .each i (held-count n (length plans) i some h) .unswitched;
   past = λ _.
       let k = planStart n (planCount n (length plans)) in
       (farther k (length plans) filled out (t .within) (t .rest .0), farther k (length plans) exit entry (t .within) (t .rest .1));

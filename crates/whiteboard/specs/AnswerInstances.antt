@@ -8,10 +8,10 @@ use native.Mathlib.Omega.{arith}
 use lib.ListN.{length, getD}
 use denote.Ref.{RefT}
 use Rattle.gf2.specs.Counts.{Count}
-use Rattle.regular.specs.Runs.{Runs, runsOf}
-use Rattle.regular.specs.Words.{Word, Generated, letters}
+use Rattle.regular.specs.Runs.{Runs, Agree, runsOf}
+use Rattle.regular.specs.Words.{Word, Generated, Fraction, letters}
 use Rattle.regular.specs.Columns.{planOf}
-use Rattle.regular.specs.Pattern.{Pattern, ofLength}
+use Rattle.regular.specs.Pattern.{Pattern, LessAberration, ofLength}
 use Rattle.regular.specs.Refusals.{LentFault, either, wordsFaults, runsFaults, columnsFaults, Lowest, Chooses}
 use Rattle.regular.specs.RefusalLaws.{lowest-then, lowest-first, lowest-unique, lent-fits, lent-short}
 use Rattle.regular.specs.Same.{moved}
@@ -20,13 +20,16 @@ use Rattle.regular.specs.Given.{Given, ofWords, ofColumns, ofRuns}
 use Rattle.regular.specs.Measures.{ResolutionOf, PatternInto, ChoosesLess, HandsBackLess}
 use Rattle.regular.specs.declared.Compared.{Compared}
 use Rattle.regular.specs.declared.Checked.{Checked}
+use Rattle.words.specs.Switches.{agree-sym, pattern-agree, resolution-agree}
+use Rattle.signs.specs.SignLaws.{fraction-plus}
 use Rattle.isomorphism_laws.specs.Moving.{carries-names}
+use Rattle.isomorphism_laws.specs.SamePlan.{same-agree}
 use Rattle.whiteboard.specs.ListTests.{among, not-among}
 use Rattle.whiteboard.specs.PlanInstances.{runsABC, disguised, witness-disguised, pattern-abc, pattern-abcd, resolution-full}
-use Rattle.whiteboard.specs.PlanInstances.{less-abcd, not-less, different-abc-abcd}
+use Rattle.whiteboard.specs.PlanInstances.{less-abcd, not-less, different-abc-abcd, bytes-plan, equal-abc, equal-abcd}
 use Rattle.whiteboard.specs.RefusalInstances.{refusal-7, refusal-8, refused-runs, accepted-disguised, accepted-columns}
-use Rattle.whiteboard.specs.RefusalInstances.{accepted-abcd, accepted-words, accepted-word-abcd, accepted-no-words, accepted-runs}
-use Rattle.whiteboard.specs.Samples.{abc, abcd, words-abc}
+use Rattle.whiteboard.specs.RefusalInstances.{accepted-abcd, accepted-words, accepted-word-abcd, accepted-no-words, accepted-runs, fiveABC, fiveABCD}
+use Rattle.whiteboard.specs.Samples.{abc, abcd, planABC, planABCD, words-abc}
 use Rattle.whiteboard.specs.Tests.{below, agree-at}
 use Rattle.whiteboard.specs.Whiteboard.{wordsP, wordsQ, whiteboard}
 
@@ -38,13 +41,21 @@ pub not-start : ofRuns 4 1 disguised .start 0 → ⊥
 not-start e = omega (arith, e)
 
 -- a number and a value: the resolution of ABC, of no words, and of AB, which is refused
-pub gives-resolution : ResolutionOf 4 (ofWords 4 1 (7 ∷ [])) 0 3
-gives-resolution = record { number = accepted-words; refused = λ h. absurd (omega arith); result = λ e. words-abc .resolution }
+pub gives-resolution : ResolutionOf 4 (ofWords 4 1 (7 ∷ []) 0) 0 3
+gives-resolution = record {
+  number = accepted-words;
+  refused = λ h. absurd (omega arith);
+  result = λ e. resolution-agree 4 (Generated 4 1 (7 ∷ [])) (Fraction 4 1 (7 ∷ []) 0) (fraction-plus 4 1 (7 ∷ [])) 3 (words-abc .resolution);
+}
 
-pub gives-full : ResolutionOf 3 (ofWords 3 0 []) 0 4
-gives-full = record { number = accepted-no-words; refused = λ h. absurd (omega arith); result = λ e. resolution-full }
+pub gives-full : ResolutionOf 3 (ofWords 3 0 [] 0) 0 4
+gives-full = record {
+  number = accepted-no-words;
+  refused = λ h. absurd (omega arith);
+  result = λ e. resolution-agree 3 (Generated 3 0 []) (Fraction 3 0 [] 0) (fraction-plus 3 0 []) 4 resolution-full;
+}
 
-pub gives-refused : ResolutionOf 3 (ofWords 3 1 (3 ∷ [])) 7 0
+pub gives-refused : ResolutionOf 3 (ofWords 3 1 (3 ∷ []) 0) 7 0
 gives-refused = record { number = refusal-7; refused = λ h. refl; result = λ e. absurd (omega arith) }
 
 -- a lent list: the pattern of ABC in the first four of five places, and a list too short
@@ -54,59 +65,91 @@ pattern-first n s p q e h = record { counts = λ l a b. subst (Count (λ w. Word
 abbrev pub five : List ℕ
 five = 9 ∷ 9 ∷ 9 ∷ 9 ∷ 9 ∷ []
 
-pub fills-pattern : PatternInto 4 (ofColumns 4 1 abc) five (0 ∷ 0 ∷ 1 ∷ 0 ∷ 9 ∷ []) 0
+abbrev byBytes : List ℕ → Runs
+byBytes c = ofColumns 4 1 c .plan
+
+abc-agrees : Agree (planOf 4 3 abc) (byBytes planABC)
+abc-agrees = bytes-plan 4 3 abc planABC equal-abc refl
+
+abcd-agrees : Agree (planOf 4 3 abcd) (byBytes planABCD)
+abcd-agrees = bytes-plan 4 3 abcd planABCD equal-abcd refl
+
+pub fills-pattern : PatternInto 4 (ofColumns 4 1 planABC) five (0 ∷ 0 ∷ 1 ∷ 0 ∷ 9 ∷ []) 0
 unfolding below
 fills-pattern = record {
-  number = lowest-then (columnsFaults 4 1 abc) (LentFault 4 five) 0 accepted-columns (lent-fits 4 five (omega arith));
+  number = lowest-then (columnsFaults 4 1 planABC) (LentFault 4 five) 0 accepted-columns (lent-fits 4 five (omega arith));
   refused = λ h. absurd (omega arith);
-  result = λ e. pattern-first 4 (planOf 4 3 abc) (0 ∷ 0 ∷ 1 ∷ 0 ∷ []) (0 ∷ 0 ∷ 1 ∷ 0 ∷ 9 ∷ [])
-      (agree-at (λ i. getD (0 ∷ 0 ∷ 1 ∷ 0 ∷ []) i 0) (λ i. getD (0 ∷ 0 ∷ 1 ∷ 0 ∷ 9 ∷ []) i 0) 4 refl) pattern-abc;
+  result = λ e. pattern-first 4 (byBytes planABC) (0 ∷ 0 ∷ 1 ∷ 0 ∷ []) (0 ∷ 0 ∷ 1 ∷ 0 ∷ 9 ∷ [])
+      (agree-at (λ i. getD (0 ∷ 0 ∷ 1 ∷ 0 ∷ []) i 0) (λ i. getD (0 ∷ 0 ∷ 1 ∷ 0 ∷ 9 ∷ []) i 0) 4 refl)
+      (pattern-agree 4 (planOf 4 3 abc) (byBytes planABC) abc-agrees (0 ∷ 0 ∷ 1 ∷ 0 ∷ []) pattern-abc);
   past = λ e. refl;
   size = refl;
 }
 
-pub fills-refused : PatternInto 4 (ofColumns 4 1 abc) (9 ∷ 9 ∷ []) (9 ∷ 9 ∷ []) 8
+pub fills-refused : PatternInto 4 (ofColumns 4 1 planABC) (9 ∷ 9 ∷ []) (9 ∷ 9 ∷ []) 8
 fills-refused = record {
-  number = lowest-then (columnsFaults 4 1 abc) (LentFault 4 (9 ∷ 9 ∷ [])) 8 accepted-columns (lent-short 4 (9 ∷ 9 ∷ []) (omega arith));
+  number = lowest-then (columnsFaults 4 1 planABC) (LentFault 4 (9 ∷ 9 ∷ [])) 8 accepted-columns (lent-short 4 (9 ∷ 9 ∷ []) (omega arith));
   refused = λ h. refl;
   result = λ e. absurd (omega arith);
   past = λ e. refl;
   size = refl;
 }
 
--- the better of two lists of words: ABCD after ABC is chosen, ABC after ABCD is not, AB is refused
-pub chooses-second : ChoosesLess 4 3 (ofWords 4 1 (7 ∷ [])) (ofWords 4 1 (15 ∷ [])) 2
-chooses-second = Chooses.second (lowest-then (wordsFaults 4 1 (7 ∷ [])) (wordsFaults 4 1 (15 ∷ [])) 0 accepted-words accepted-word-abcd) less-abcd
+-- the better of two lists of words: ABCD after ABC is chosen, ABC after ABCD is not, AB is refused. They have the patterns of the plans that they generate
+less-agree : (n m : ℕ) (t t2 s s2 : Runs) → Agree t t2 → Agree s s2 → LessAberration n m t s → LessAberration n m t2 s2
+less-agree n m t t2 s s2 a b l = record {
+  p = l .p;
+  q = l .q;
+  of-t = pattern-agree n t t2 a (l .p) (l .of-t);
+  of-s = pattern-agree n s s2 b (l .q) (l .of-s);
+  better = l .better;
+}
 
-pub chooses-first : ChoosesLess 4 3 (ofWords 4 1 (15 ∷ [])) (ofWords 4 1 (7 ∷ [])) 1
-chooses-first = Chooses.first (lowest-then (wordsFaults 4 1 (15 ∷ [])) (wordsFaults 4 1 (7 ∷ [])) 0 accepted-word-abcd accepted-words) not-less
+abbrev plus : ℕ → Runs
+plus w = Fraction 4 1 (w ∷ []) 0
+
+less-plus : LessAberration 4 3 (plus 15) (plus 7)
+less-plus =
+    less-agree 4 3 (Generated 4 1 (15 ∷ [])) (plus 15) (Generated 4 1 (7 ∷ [])) (plus 7) (fraction-plus 4 1 (15 ∷ [])) (fraction-plus 4 1 (7 ∷ [])) less-abcd
+
+not-less-plus : LessAberration 4 3 (plus 7) (plus 15) → ⊥
+not-less-plus l =
+    not-less (less-agree 4 3 (plus 7) (Generated 4 1 (7 ∷ [])) (plus 15) (Generated 4 1 (15 ∷ []))
+    (agree-sym (Generated 4 1 (7 ∷ [])) (plus 7) (fraction-plus 4 1 (7 ∷ [])))
+    (agree-sym (Generated 4 1 (15 ∷ [])) (plus 15) (fraction-plus 4 1 (15 ∷ []))) l)
+
+pub chooses-second : ChoosesLess 4 3 (ofWords 4 1 (7 ∷ []) 0) (ofWords 4 1 (15 ∷ []) 0) 2
+chooses-second = Chooses.second (lowest-then (wordsFaults 4 1 (7 ∷ []) 0) (wordsFaults 4 1 (15 ∷ []) 0) 0 accepted-words accepted-word-abcd) less-plus
+
+pub chooses-first : ChoosesLess 4 3 (ofWords 4 1 (15 ∷ []) 0) (ofWords 4 1 (7 ∷ []) 0) 1
+chooses-first = Chooses.first (lowest-then (wordsFaults 4 1 (15 ∷ []) 0) (wordsFaults 4 1 (7 ∷ []) 0) 0 accepted-word-abcd accepted-words) not-less-plus
 
 -- two arguments with one list of faults
 twice : (F : ℕ → Type 0) (r : ℕ) → 0 < r → Lowest F r → Lowest (either F F) r
 twice F r h l = lowest-first F F r h l (λ k f. l .least k f .1)
 
-pub chooses-refused : ChoosesLess 3 2 (ofWords 3 1 (3 ∷ [])) (ofWords 3 1 (3 ∷ [])) 0
-chooses-refused = Chooses.refused 7 (omega arith) (twice (wordsFaults 3 1 (3 ∷ [])) 7 (omega arith) refusal-7)
+pub chooses-refused : ChoosesLess 3 2 (ofWords 3 1 (3 ∷ []) 0) (ofWords 3 1 (3 ∷ []) 0) 0
+chooses-refused = Chooses.refused 7 (omega arith) (twice (wordsFaults 3 1 (3 ∷ []) 0) 7 (omega arith) refusal-7)
 
 -- a list lent from a place
 abbrev lentAt : ℕ → List ℕ → RefT (List ℕ)
 lentAt place list = record { ptr = (place, 0); name = place; now = list }
 
-pub hands-second : HandsBackLess 4 3 (ofWords 4 1 (7 ∷ [])) (ofWords 4 1 (15 ∷ [])) (lentAt 1 (7 ∷ [])) (lentAt 2 (15 ∷ [])) (lentAt 2 (15 ∷ []))
+pub hands-second : HandsBackLess 4 3 (ofWords 4 1 (7 ∷ []) 0) (ofWords 4 1 (15 ∷ []) 0) (lentAt 1 (7 ∷ [])) (lentAt 2 (15 ∷ [])) (lentAt 2 (15 ∷ []))
 hands-second = record {
   better = λ l b. refl;
-  otherwise = λ l n. absurd (n less-abcd);
+  otherwise = λ l n. absurd (n less-plus);
   refused = λ k h l. absurd (omega (arith, lowest-unique both k 0 l accepted));
   start = λ k h l. absurd (omega (arith, lowest-unique both k 0 l accepted));
 }
   where
     both : ℕ → Type 0
-    both = either (wordsFaults 4 1 (7 ∷ [])) (wordsFaults 4 1 (15 ∷ []))
+    both = either (wordsFaults 4 1 (7 ∷ []) 0) (wordsFaults 4 1 (15 ∷ []) 0)
 
     accepted : Lowest both 0
-    accepted = lowest-then (wordsFaults 4 1 (7 ∷ [])) (wordsFaults 4 1 (15 ∷ [])) 0 accepted-words accepted-word-abcd
+    accepted = lowest-then (wordsFaults 4 1 (7 ∷ []) 0) (wordsFaults 4 1 (15 ∷ []) 0) 0 accepted-words accepted-word-abcd
 
-pub hands-empty : HandsBackLess 3 2 (ofWords 3 1 (3 ∷ [])) (ofWords 3 1 (3 ∷ [])) (lentAt 1 (3 ∷ [])) (lentAt 2 (3 ∷ [])) (lentAt 1 [])
+pub hands-empty : HandsBackLess 3 2 (ofWords 3 1 (3 ∷ []) 0) (ofWords 3 1 (3 ∷ []) 0) (lentAt 1 (3 ∷ [])) (lentAt 2 (3 ∷ [])) (lentAt 1 [])
 hands-empty = record {
   better = λ l b. absurd (omega (arith, lowest-unique both 0 7 l refused));
   otherwise = λ l n. absurd (omega (arith, lowest-unique both 0 7 l refused));
@@ -115,19 +158,18 @@ hands-empty = record {
 }
   where
     both : ℕ → Type 0
-    both = either (wordsFaults 3 1 (3 ∷ [])) (wordsFaults 3 1 (3 ∷ []))
+    both = either (wordsFaults 3 1 (3 ∷ []) 0) (wordsFaults 3 1 (3 ∷ []) 0)
 
     refused : Lowest both 7
-    refused = twice (wordsFaults 3 1 (3 ∷ [])) 7 (omega arith) refusal-7
+    refused = twice (wordsFaults 3 1 (3 ∷ []) 0) 7 (omega arith) refusal-7
 
 -- the comparison: ABC and its disguise are the same, ABC and ABCD different from length 3 on, a witness of 4 for 5 factors is refused
-pub differ-at : Differ 4 (planOf 4 3 abc) (planOf 4 3 abcd) 3
+alike-first : (k : ℕ) → 1 ≤ k → k < 3 → ofLength (0 ∷ 0 ∷ 1 ∷ 0 ∷ []) k ≡ ofLength (0 ∷ 0 ∷ 0 ∷ 1 ∷ []) k
 unfolding below
-differ-at =
-    Differ.at 3 (0 ∷ 0 ∷ 1 ∷ 0 ∷ []) (0 ∷ 0 ∷ 0 ∷ 1 ∷ []) pattern-abc pattern-abcd (omega arith) (omega arith) alike (λ e. omega arith)
-  where
-    alike : (k : ℕ) → 1 ≤ k → k < 3 → ofLength (0 ∷ 0 ∷ 1 ∷ 0 ∷ []) k ≡ ofLength (0 ∷ 0 ∷ 0 ∷ 1 ∷ []) k
-    alike k h l = agree-at (λ i. getD (0 ∷ 0 ∷ 1 ∷ 0 ∷ []) i 0) (λ i. getD (0 ∷ 0 ∷ 0 ∷ 1 ∷ []) i 0) 2 refl (k - 1) (omega arith)
+alike-first k h l = agree-at (λ i. getD (0 ∷ 0 ∷ 1 ∷ 0 ∷ []) i 0) (λ i. getD (0 ∷ 0 ∷ 0 ∷ 1 ∷ []) i 0) 2 refl (k - 1) (omega arith)
+
+pub differ-at : Differ 4 (planOf 4 3 abc) (planOf 4 3 abcd) 3
+differ-at = Differ.at 3 (0 ∷ 0 ∷ 1 ∷ 0 ∷ []) (0 ∷ 0 ∷ 0 ∷ 1 ∷ []) pattern-abc pattern-abcd (omega arith) (omega arith) alike-first (λ e. omega arith)
 
 pub differ-nowhere : Differ 9 (Generated 9 3 wordsP) (Generated 9 3 wordsQ) 0
 differ-nowhere = whiteboard .1 .1 .1 .1 .1 .1 .1 .1 .1 .0 .length
@@ -153,15 +195,19 @@ compares-same =
     (agree-at (λ f. getD namesOfFive f 0) (λ f. getD (1 ∷ 2 ∷ 3 ∷ 0 ∷ []) f 0) 4 refl) (witness-disguised .carries))
     (λ from to. absurd (omega (arith, to))) refl refl
 
-pub compares-different : Compares 4 (ofColumns 4 1 abc) (ofColumns 4 1 abcd) five five (Compared.Different 3)
+pub compares-different : Compares 4 (ofColumns 4 1 planABC) (ofColumns 4 1 planABCD) five five (Compared.Different 3)
 compares-different =
     Compares.different 3
-    (lowest-then (either (columnsFaults 4 1 abc) (columnsFaults 4 1 abcd)) (LentFault 4 five) 0
-    (lowest-then (columnsFaults 4 1 abc) (columnsFaults 4 1 abcd) 0 accepted-columns accepted-abcd) (lent-fits 4 five (omega arith)))
-    different-abc-abcd differ-at refl
+    (lowest-then (either (columnsFaults 4 1 planABC) (columnsFaults 4 1 planABCD)) (LentFault 4 five) 0
+    (lowest-then (columnsFaults 4 1 planABC) (columnsFaults 4 1 planABCD) 0 accepted-columns accepted-abcd) (lent-fits 4 five (omega arith)))
+    (λ k. different-abc-abcd (same-agree 4 (byBytes planABC) (planOf 4 3 abc) (byBytes planABCD) (planOf 4 3 abcd)
+    (agree-sym (planOf 4 3 abc) (byBytes planABC) abc-agrees) (agree-sym (planOf 4 3 abcd) (byBytes planABCD) abcd-agrees) k))
+    (Differ.at 3 (0 ∷ 0 ∷ 1 ∷ 0 ∷ []) (0 ∷ 0 ∷ 0 ∷ 1 ∷ [])
+    (pattern-agree 4 (planOf 4 3 abc) (byBytes planABC) abc-agrees (0 ∷ 0 ∷ 1 ∷ 0 ∷ []) pattern-abc)
+    (pattern-agree 4 (planOf 4 3 abcd) (byBytes planABCD) abcd-agrees (0 ∷ 0 ∷ 0 ∷ 1 ∷ []) pattern-abcd)
+    (omega arith) (omega arith) alike-first (λ e. omega arith)) refl
 
-pub compares-refused : Compares 5 (ofColumns 5 1 (1 ∷ 2 ∷ 3 ∷ 4 ∷ 8 ∷ [])) (ofColumns 5 1 (1 ∷ 2 ∷ 4 ∷ 7 ∷ 8 ∷ [])) (0 ∷ 0 ∷ 0 ∷ 0 ∷ [])
-    (0 ∷ 0 ∷ 0 ∷ 0 ∷ []) (Compared.Refused 8)
+pub compares-refused : Compares 5 (ofColumns 5 1 fiveABC) (ofColumns 5 1 fiveABCD) (0 ∷ 0 ∷ 0 ∷ 0 ∷ []) (0 ∷ 0 ∷ 0 ∷ 0 ∷ []) (Compared.Refused 8)
 compares-refused = Compares.refused 8 (omega arith) refusal-8 refl
 
 -- the check of a witness: with its mask, without it, and between runs that are not regular

@@ -1,6 +1,7 @@
 -- Instances of the book: the bytes of an entry, the book of ABCD and ABC at R 3, and what its writer answers for plans as bytes, for records, and when
 -- it refuses.
 use mathlib.Core.Path.{_≡_, refl, sym, ap, subst}
+use mathlib.Core.Bool.{true}
 use mathlib.Core.Logic.{by-cases}
 use mathlib.Core.List.{List, [], _∷_, _++_}
 use Prim.Native.Nat.{ℕ, _<_}
@@ -20,9 +21,9 @@ use Rattle.regular.specs.Refusals.{LentFault, either, Lowest}
 use Rattle.regular.specs.Smallest.{Equal}
 use Rattle.words.specs.Switches.{pattern-agree}
 use Rattle.whiteboard.specs.ListInstances.{plans-wanted, records-wanted, twoRecords}
-use Rattle.whiteboard.specs.PlanInstances.{recordABC, recordABCD, pattern-abc, pattern-abcd}
+use Rattle.whiteboard.specs.PlanInstances.{recordABC, recordABCD, pattern-abc, pattern-abcd, equal-abc, equal-abcd}
 use Rattle.whiteboard.specs.ResultInstances.{plans}
-use Rattle.whiteboard.specs.Samples.{abc, abcd}
+use Rattle.whiteboard.specs.Samples.{abc, abcd, planABC, planABCD}
 use Rattle.whiteboard.specs.Tests.{below, agree-at}
 
 -- the kinds of four factors, as the paper writes them: 0x01, 0x24, 0x44
@@ -53,6 +54,26 @@ pub not-bytes : EntryBytes 4 (entryOfColumns 4 1 abcd) bytesABC → ⊥
 unfolding each
 not-bytes x = let e : _≡_ {A = ℕ} 3 4 = ap (λ (l : List ℕ). getD l 3 0) (x .records) in omega (arith, e)
 
+-- the same of a plan's bytes: a plan's pattern is that of its columns
+columns-pattern : (c d p : List ℕ) → Equal 4 c d → Pattern 4 (planOf 4 3 c) p → Pattern 4 (planOf 4 3 d) p
+columns-pattern c d p e h = pattern-agree 4 (planOf 4 3 c) (planOf 4 3 d) (plan-cols 4 3 c d e) p h
+
+plan-bytes-abcd : EntryBytes 4 (entryOfColumns 4 1 planABCD) bytesABCD
+unfolding each
+plan-bytes-abcd = record {
+  counts = 0 ∷ 0 ∷ 0 ∷ 1 ∷ [];
+  pattern = columns-pattern abcd planABCD (0 ∷ 0 ∷ 0 ∷ 1 ∷ []) equal-abcd pattern-abcd;
+  records = refl;
+}
+
+plan-bytes-abc : EntryBytes 4 (entryOfColumns 4 1 planABC) bytesABC
+unfolding each
+plan-bytes-abc = record {
+  counts = 0 ∷ 0 ∷ 1 ∷ 0 ∷ [];
+  pattern = columns-pattern abc planABC (0 ∷ 0 ∷ 1 ∷ 0 ∷ []) equal-abc pattern-abc;
+  records = refl;
+}
+
 -- the entries of both
 abbrev partAt : ℕ → List ℕ
 partAt i = getD (bytesABCD ∷ bytesABC ∷ []) i []
@@ -65,7 +86,7 @@ pub entries-both : EntriesBytes 4 (λ i. entryOfColumns 4 1 (planAt 4 plans i)) 
 unfolding each
 entries-both = record {
   part = partAt;
-  parts = two (λ i. EntryBytes 4 (entryOfColumns 4 1 (planAt 4 plans i)) (partAt i)) bytes-abcd bytes-abc;
+  parts = two (λ i. EntryBytes 4 (entryOfColumns 4 1 (planAt 4 plans i)) (partAt i)) plan-bytes-abcd plan-bytes-abc;
   joined = refl;
 }
 
@@ -92,8 +113,8 @@ judged-two plans none =
 
 pub writes : WritesPlans 4 1 3 plans (replicate 27 9) (book ++ (9 ∷ [])) 0 26
 writes = record {
-  lowest = lowest-then (either (wantedPlansFaults 4 1 3 plans) (CountFault 2)) (LentFault 26 (replicate 27 9)) 0
-      (judged-two (wantedPlansFaults 4 1 3 plans) plans-wanted) (lent-fits 26 (replicate 27 9) (omega arith));
+  lowest = lowest-then (either (wantedPlansFaults 4 1 3 true plans) (CountFault 2)) (LentFault 26 (replicate 27 9)) 0
+      (judged-two (wantedPlansFaults 4 1 3 true plans) (plans-wanted true)) (lent-fits 26 (replicate 27 9) (omega arith));
   refused = λ h. absurd (omega arith);
   whole = λ e. refl;
   book = λ e. book-4;
@@ -103,8 +124,8 @@ writes = record {
 
 pub writes-refused : WritesPlans 4 1 3 plans (9 ∷ 9 ∷ []) (9 ∷ 9 ∷ []) 8 0
 writes-refused = record {
-  lowest = lowest-then (either (wantedPlansFaults 4 1 3 plans) (CountFault 2)) (LentFault 26 (9 ∷ 9 ∷ [])) 8
-      (judged-two (wantedPlansFaults 4 1 3 plans) plans-wanted) (lent-short 26 (9 ∷ 9 ∷ []) (omega arith));
+  lowest = lowest-then (either (wantedPlansFaults 4 1 3 true plans) (CountFault 2)) (LentFault 26 (9 ∷ 9 ∷ [])) 8
+      (judged-two (wantedPlansFaults 4 1 3 true plans) (plans-wanted true)) (lent-short 26 (9 ∷ 9 ∷ []) (omega arith));
   refused = λ h. (refl, refl);
   whole = λ e. absurd (omega arith);
   book = λ e. absurd (omega arith);
@@ -112,15 +133,12 @@ writes-refused = record {
   size = refl;
 }
 
--- the same book of records: a plan's pattern is that of its record
-record-pattern : (c d p : List ℕ) → Equal 4 c d → Pattern 4 (planOf 4 3 c) p → Pattern 4 (planOf 4 3 d) p
-record-pattern c d p e h = pattern-agree 4 (planOf 4 3 c) (planOf 4 3 d) (plan-cols 4 3 c d e) p h
-
+-- the same book of records
 record-abcd : EntryBytes 4 (entryOfDesign 4 1 recordABCD) bytesABCD
 unfolding each below
 record-abcd = record {
   counts = 0 ∷ 0 ∷ 0 ∷ 1 ∷ [];
-  pattern = record-pattern abcd (recordABCD .columns) (0 ∷ 0 ∷ 0 ∷ 1 ∷ [])
+  pattern = columns-pattern abcd (recordABCD .columns) (0 ∷ 0 ∷ 0 ∷ 1 ∷ [])
       (agree-at (λ f. getD abcd f 0) (λ f. getD (recordABCD .columns) f 0) 4 refl) pattern-abcd;
   records = refl;
 }
@@ -129,7 +147,7 @@ record-abc : EntryBytes 4 (entryOfDesign 4 1 recordABC) bytesABC
 unfolding each below
 record-abc = record {
   counts = 0 ∷ 0 ∷ 1 ∷ 0 ∷ [];
-  pattern = record-pattern abc (recordABC .columns) (0 ∷ 0 ∷ 1 ∷ 0 ∷ [])
+  pattern = columns-pattern abc (recordABC .columns) (0 ∷ 0 ∷ 1 ∷ 0 ∷ [])
       (agree-at (λ f. getD abc f 0) (λ f. getD (recordABC .columns) f 0) 4 refl) pattern-abc;
   records = refl;
 }
@@ -137,8 +155,8 @@ record-abc = record {
 pub writes-designs : WritesDesigns 4 1 3 twoRecords (replicate 27 9) (book ++ (9 ∷ [])) 0 26
 unfolding each
 writes-designs = record {
-  lowest = lowest-then (either (wantedRecordsFaults 4 1 3 twoRecords) (CountFault 2)) (LentFault 26 (replicate 27 9)) 0
-      (judged-two (wantedRecordsFaults 4 1 3 twoRecords) records-wanted) (lent-fits 26 (replicate 27 9) (omega arith));
+  lowest = lowest-then (either (wantedRecordsFaults 4 1 3 true twoRecords) (CountFault 2)) (LentFault 26 (replicate 27 9)) 0
+      (judged-two (wantedRecordsFaults 4 1 3 true twoRecords) (records-wanted true)) (lent-fits 26 (replicate 27 9) (omega arith));
   refused = λ h. absurd (omega arith);
   whole = λ e. refl;
   book = λ e. record {

@@ -4,7 +4,7 @@ use mathlib.Core.Path.{_≡_, refl, sym, subst}
 use mathlib.Core.Logic.{_⊎_, inl, inr, by-cases, ⊎-elim}
 use mathlib.Core.Bool.{true, false, false≢true}
 use mathlib.Core.List.{List, [], _∷_}
-use Prim.Native.Nat.{ℕ, suc}
+use Prim.Native.Nat.{ℕ, suc, _^_, _<_}
 use native.Mathlib.Omega.{arith}
 use native.Mathlib.Decide.{ℕ-discrete}
 use borrow.Author.Tests.{ltb-true}
@@ -12,7 +12,8 @@ use lib.Count.{ones, onesIn}
 use lib.Dec.{ltb}
 use lib.ListN.{getD, replicate}
 use Rattle.gf2.specs.Counts.{Count}
-use Rattle.gf2.specs.Digits.{odd}
+use Rattle.gf2.specs.DigitLaws.{bit-other}
+use Rattle.gf2.specs.Digits.{bit, odd}
 use Rattle.gf2.specs.Lists.{listTo}
 use Rattle.gf2.specs.Truth.{clash}
 use Rattle.isomorphism_laws.specs.MatchLaws.{match-carries, carries-match}
@@ -24,10 +25,14 @@ use Rattle.regular.specs.RefusalLaws.{Lower}
 use Rattle.regular.specs.Same.{moved, Within, Carries}
 use Rattle.regular.specs.Smallest.{Equal, Entry}
 use Rattle.standard.specs.Model.{runTable}
+use Rattle.standard.specs.Form.{unitsBefore}
 use Rattle.words.specs.Generators.{Generators}
 use Rattle.words.specs.Switches.{agree-sym, distances-agree}
 use Rattle.counts.specs.Distances.{distances-any-run}
+use Rattle.counts.specs.GivenWords.{given-generators}
 use Rattle.counts.specs.PlanCounts.{plan-words}
+use Rattle.signs.specs.Masks.{MaskOf}
+use Rattle.signs.specs.SignLetter.{Solvable}
 use Rattle.isomorphism_laws.specs.Masks.{plan-within}
 use Rattle.isomorphism_laws.specs.Match.{Match, Places}
 use Rattle.isomorphism_laws.specs.SamePlan.{carries-agree}
@@ -36,11 +41,10 @@ use Rattle.catalogue_laws.specs.Demand.{plan-runs}
 use Rattle.catalogue_laws.specs.Steps.{EntryHeld, FirstEntry, StepFrom, Place, one}
 use Rattle.catalogue_laws.specs.Walk.{first}
 use Rattle.catalogue_laws.specs.Walked.{Begun, Ended}
-use Rattle.whiteboard.specs.GivenWords.{given-generators}
 use Rattle.whiteboard.specs.ListTests.{among, all, distinct, carried-witness}
 use Rattle.whiteboard.specs.PlanInstances.{runsABC, recordABC, recordABCD, holds-abc, holds-abcd, past-front, table-abc, distances-abc, bcd}
-use Rattle.whiteboard.specs.PlanInstances.{below-abc, distinct-abc, units-abc, different-abc-abcd, standard-form-abc, independent-abc}
-use Rattle.whiteboard.specs.Samples.{abc, abcd, catalogue-4}
+use Rattle.whiteboard.specs.PlanInstances.{below-abc, distinct-abc, units-abc, different-abc-abcd, standard-form-abc, independent-abc, long-words}
+use Rattle.whiteboard.specs.Samples.{abc, abcd, catalogue-4, words-abc}
 use Rattle.whiteboard.specs.Tests.{below, below-at}
 
 -- no run past factor n; the word ABC generates the plan's words; the plan has 2^1 - 1 of them
@@ -58,6 +62,24 @@ generators-abc = given-generators 4 1 (7 ∷ []) (record {
 
 pub one-word-abc : Count (Word 4 (Generated 4 1 (7 ∷ []))) 1
 one-word-abc = plan-words 4 3 (Generated 4 1 (7 ∷ [])) abc standard-form-abc
+
+-- ABC with a minus can be solved for a run; from the run with A low, its mask is C
+pub solvable-abc : Solvable 4 1 (7 ∷ [])
+solvable-abc = record {
+  most = omega arith;
+  less = omega arith;
+  basics = omega arith;
+  within = generators-abc .within;
+  independent = independent-abc;
+  long = long-words (1 ∷ 0 ∷ []) (words-abc .pattern);
+}
+
+pub mask-of-abc : MaskOf 4 abc 1 4
+unfolding runOf odd ones onesIn unitsBefore
+mask-of-abc = record { run = 1; below = omega arith; is = refl; high = high }
+  where
+    high : (f : ℕ) → f < 4 → getD abc f 0 ≡ 2 ^ unitsBefore abc f → bit f 4 ≡ 0
+    high f h u = by-cases (ℕ-discrete f 2) (λ e. absurd (omega (arith, subst (λ (i : ℕ). getD abc i 0 ≡ 2 ^ unitsBefore abc i) e u))) (bit-other f 2)
 
 -- distance counts from the run AC, the same as from the first (004: the distance distribution)
 pub distances-from-ac : Distances 4 (runsOf runsABC) 5 (1 ∷ 1 ∷ 3 ∷ 3 ∷ 0 ∷ [])

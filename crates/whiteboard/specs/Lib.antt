@@ -1,11 +1,11 @@
 pub mod Tests
-pub mod GivenWords
 pub mod Products
 pub mod Rows
 pub mod RowLaws
 pub mod Whiteboard
 pub mod ListTests
 pub mod Samples
+pub mod Switching
 pub mod PlanInstances
 pub mod RefusalInstances
 pub mod AnswerInstances
@@ -14,5 +14,9 @@ pub mod ListInstances
 pub mod BookInstances
 pub mod ReadingInstances
 pub mod LawInstances
+pub mod SignInstances
+pub mod MaskInstances
+pub mod FormInstances
+pub mod MaskedAnswers
 pub mod WordSets
 pub mod ToldApart

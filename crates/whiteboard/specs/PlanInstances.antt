@@ -7,16 +7,20 @@ use Prim.Native.Nat.{ℕ, zero, suc, _+_, _^_, _≤_, _<_}
 use native.Mathlib.Omega.{arith}
 use native.Mathlib.Decide.{ℕ-discrete}
 use borrow.Author.Tests.{ltb-true}
+use lib.Bits.{bitXor, xor-zero-r}
 use lib.Count.{ones, onesIn}
 use lib.Dec.{ltb, lit≤}
 use lib.ListN.{length, getD, replicate}
+use Rattle.gf2.specs.DigitLaws.{bit-none}
 use Rattle.gf2.specs.Digits.{odd}
 use Rattle.gf2.specs.Fill.{zeros}
 use Rattle.gf2.specs.Lists.{listTo}
 use Rattle.regular.specs.Sizes.{Size, Sized}
-use Rattle.regular.specs.Runs.{Runs, runsOf, switched, Regular, Table}
+use Rattle.regular.specs.Runs.{Runs, Agree, runsOf, switched, Regular, Table}
 use Rattle.regular.specs.Words.{Word, NoShort, Generated, total, Independent, Last, Reduced}
-use Rattle.regular.specs.Columns.{runOf, planOf, Below, Column, Spans, Listed, RunTable, Basic, StandardColumns, RunsOfPlan}
+use Rattle.regular.specs.Columns.{runOf, planOf, Below, Column, Spans, Listed, ListedWith, RunTable, RunTableWith, Basic, StandardColumns}
+use Rattle.regular.specs.Columns.{planWith, Allowed, Standard, RunsOfPlan}
+use Rattle.regular.specs.PlanBytes.{maskIn}
 use Rattle.regular.specs.Pattern.{Pattern, sumTo, Resolution, Distances, lastLength, Better, LessAberration, AberrationCriterion, ofLength}
 use Rattle.regular.specs.Designs.{Holds, designOf, designBytes, design-holds}
 use Rattle.regular.specs.Comparisons.{Witness}
@@ -26,11 +30,12 @@ use Rattle.regular.specs.Smallest.{Rising, Equal, Before, Smallest, Entry, IsEn
 use Rattle.regular.specs.declared.Design.{Design}
 use Rattle.standard.specs.Form.{unitsBefore, StandardFor, DistinctNonzero, Repeat}
 use Rattle.standard.specs.Plans.{word-cancels, cancels-word}
-use Rattle.standard.specs.Runs.{total-lt}
+use Rattle.standard.specs.Runs.{total-lt, plan-cols}
 use Rattle.standard.specs.Units.{spread, unitsAt}
 use Rattle.words.specs.Model.{wordColumns, pivotsAt, freeBefore, reduced, lastOf}
 use Rattle.words.specs.ReducedWords.{words-columns-words}
-use Rattle.words.specs.Switches.{pattern-agree}
+use Rattle.words.specs.Standards.{form-standard}
+use Rattle.words.specs.Switches.{pattern-agree, agree-trans}
 use Rattle.words.specs.WordList.{wordsTo}
 use Rattle.counts.specs.Aberration.{less-criterion, criterion-less}
 use Rattle.counts.specs.FullFactorials.{resolution-some}
@@ -43,7 +48,7 @@ use Rattle.smallest_laws.specs.Growth.{entry-equal}
 use Rattle.smallest_laws.specs.UnitForms.{rising-distinct}
 use Rattle.catalogue_laws.specs.Demand.{Whole, whole}
 use Rattle.whiteboard.specs.ListTests.{among, all, distinct, not-among, carried-witness, tabled-table}
-use Rattle.whiteboard.specs.Samples.{abc, abcd, catalogue-4, words-abc, words-abcd, runs-abc, printed-samples}
+use Rattle.whiteboard.specs.Samples.{abc, abcd, planABC, planABCD, catalogue-4, words-abc, words-abcd, runs-abc, printed-samples}
 use Rattle.whiteboard.specs.Tests.{below, below-at, agree-at, only-zero}
 use Rattle.whiteboard.specs.Whiteboard.{whiteboard}
 
@@ -192,15 +197,9 @@ basic-a w word last =
 pub not-basic : Basic 4 (planOf 4 3 abc) 2 → ⊥
 not-basic h = h 7 word-abc last-c
 
--- the standard columns of ABC's plan, and its run table by them
+-- the standard columns of ABC's plan
 pub standard-abc : StandardColumns 4 3 (Generated 4 1 (7 ∷ [])) abc
 standard-abc = words-abc .columns
-
-pub runs-of-abc : RunsOfPlan 4 3 Listed (Generated 4 1 (7 ∷ [])) runsABC
-runs-of-abc = record { columns = abc; standard = standard-abc; table = listed-abc }
-
-pub run-table-of-abc : RunsOfPlan 4 3 RunTable (Generated 4 1 (7 ∷ [])) tableABC
-run-table-of-abc = record { columns = abc; standard = standard-abc; table = run-table-abc }
 
 -- the forms that the functions hand on: standard form, no column 0 or twice, every unit a column
 pub standard-form-abc : StandardFor 4 3 (Generated 4 1 (7 ∷ [])) abc
@@ -222,6 +221,45 @@ repeat-ab = Repeat.twice 0 1 (omega arith) (omega arith) refl
 
 pub units-abc : Units 4 3 abc
 units-abc = smallest-units 4 3 (planOf 4 3 abc) abc (catalogue-4 .sound 0 (omega arith) .smallest)
+
+-- the plan with no factor switched: its columns and mask, and its run table by them
+pub switched-none : (s : Runs) → Agree (switched 0 s) s
+switched-none s = record { into = λ x h. subst s (xor-zero-r x) h; onto = λ x h. subst s (sym (xor-zero-r x)) h }
+
+pub allowed-none : (n : ℕ) (s : Runs) → Allowed n s 0
+allowed-none n s f b = bit-none f
+
+pub standard-none : Standard 4 3 (Generated 4 1 (7 ∷ [])) abc 0
+standard-none = record {
+  allowed = allowed-none 4 (Generated 4 1 (7 ∷ []));
+  columns = form-standard 4 3 (switched 0 (Generated 4 1 (7 ∷ []))) abc (record {
+    form = standard-form-abc .form;
+    plan = agree-trans (switched 0 (Generated 4 1 (7 ∷ []))) (Generated 4 1 (7 ∷ [])) (planOf 4 3 abc) (switched-none (Generated 4 1 (7 ∷ [])))
+        (standard-abc .plan);
+  });
+}
+
+pub runs-of-abc : RunsOfPlan 4 3 ListedWith (Generated 4 1 (7 ∷ [])) runsABC
+unfolding below runOf odd ones onesIn
+runs-of-abc = record {
+  columns = abc;
+  mask = 0;
+  standard = standard-none;
+  table = agree-at (λ j. getD runsABC j 0) (λ j. bitXor (runOf abc 4 j) 0) 8 refl;
+}
+
+pub run-table-of-abc : RunsOfPlan 4 3 RunTableWith (Generated 4 1 (7 ∷ [])) tableABC
+unfolding below runOf odd ones onesIn
+run-table-of-abc = record {
+  columns = abc;
+  mask = 0;
+  standard = standard-none;
+  table = record {
+    places = refl;
+    run = agree-at (λ j. getD tableABC j 0) (λ j. bitXor (runOf abc 4 j) 0) 8 refl;
+    unused = past-front runsABC 120;
+  };
+}
 
 -- pattern, resolution, distance counts; a full factorial; less aberration and not, and 000's second example
 pub pattern-abc : Pattern 4 (planOf 4 3 abc) (0 ∷ 0 ∷ 1 ∷ 0 ∷ [])
@@ -308,7 +346,7 @@ not-less l =
     (λ ne. omega (arith, b .before 3 (omega arith) (omega (arith, b .from)), abc-3, abcd-3))
 
 -- the published criterion: of document 000's own example, and of ABC and ABCD. A pattern that begins with 0 0 has no word below three letters
-long-words : {n : ℕ} {s : Runs} (p : List ℕ) → Pattern n s (0 ∷ 0 ∷ p) → NoShort n 3 s
+pub long-words : {n : ℕ} {s : Runs} (p : List ℕ) → Pattern n s (0 ∷ 0 ∷ p) → NoShort n 3 s
 long-words p pat =
     none-short pat 3 (λ l some most few. by-cases (ℕ-discrete l 1) (λ e. rw e refl) (λ ne. let e : l ≡ 2 = omega arith in rw e refl))
 
@@ -326,16 +364,16 @@ not-criterion c =
 
 -- design records that hold an entry
 abbrev pub recordABC : Design
-recordABC = record { factors = 4; basics = 3; columns = abc ++ replicate 12 0 }
+recordABC = record { factors = 4; basics = 3; columns = abc ++ replicate 12 0; mask = 0 }
 
 abbrev pub recordABCD : Design
-recordABCD = record { factors = 4; basics = 3; columns = abcd ++ replicate 12 0 }
+recordABCD = record { factors = 4; basics = 3; columns = abcd ++ replicate 12 0; mask = 0 }
 
 pub design-abc : designOf 4 3 (abc ++ replicate 12 0) ≡ recordABC
 design-abc = refl
 
--- two counts and sixteen columns, a byte each
-pub design-bytes : designBytes ≡ 2 + 16
+-- two counts and sixteen columns, a byte each, and two bytes of the mask
+pub design-bytes : designBytes ≡ 2 + 16 + 2
 design-bytes = refl
 
 pub holds-abc : Holds 4 3 (Entry 4 3 3) recordABC
@@ -353,6 +391,28 @@ holds-abcd =
     (entry-equal 4 3 abcd (abcd ++ replicate 12 0) (agree-at (λ f. getD abcd f 0) (λ f. getD (abcd ++ replicate 12 0) f 0) 4 refl) 3
     (catalogue-4 .sound 1 (omega arith)))
     (past-front abcd 12)
+
+-- the plan of bytes without switches is that of their columns
+pub bytes-plan : (n m : ℕ) (c d : List ℕ) → Equal n c d → maskIn n d ≡ 0 → Agree (planOf n m c) (planWith n m d (maskIn n d))
+bytes-plan n m c d e z =
+    let a = plan-cols n m c d e in
+    let same : (x : ℕ) → bitXor x (maskIn n d) ≡ x = λ x. ap (bitXor x) z ∙ xor-zero-r x in
+    record { into = λ x h. subst (planOf n m d) (sym (same x)) (a .into x h); onto = λ x h. a .onto x (subst (planOf n m d) (same x) h) }
+
+-- bytes of a plan that hold an entry
+pub equal-abc : Equal 4 abc planABC
+unfolding below
+equal-abc = agree-at (λ f. getD abc f 0) (λ f. getD planABC f 0) 4 refl
+
+pub equal-abcd : Equal 4 abcd planABCD
+unfolding below
+equal-abcd = agree-at (λ f. getD abcd f 0) (λ f. getD planABCD f 0) 4 refl
+
+pub plan-abc : Entry 4 3 3 planABC
+plan-abc = entry-equal 4 3 abc planABC equal-abc 3 (catalogue-4 .sound 0 (omega arith))
+
+pub plan-abcd : Entry 4 3 3 planABCD
+plan-abcd = entry-equal 4 3 abcd planABCD equal-abcd 3 (catalogue-4 .sound 1 (omega arith))
 
 -- the same plan: 000's plans of 124, 135 and of 124, 1235, the second with factor 3 switched, by a renaming that moves four factors
 abbrev pub runsA : List ℕ

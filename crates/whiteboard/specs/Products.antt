@@ -22,7 +22,7 @@ use Rattle.regular.specs.Words.{Word, Generated, letters}
 use Rattle.standard.specs.Model.{choose}
 use Rattle.isomorphism_laws.specs.LetterCounts.{Holding, holding-equal}
 use Rattle.isomorphism_laws.specs.Renamings.{moved-is, letters-moved}
-use Rattle.whiteboard.specs.GivenWords.{WordsGiven, wordList, list-different, list-word, word-list}
+use Rattle.counts.specs.GivenWords.{WordsGiven, wordList, list-different, list-word, word-list}
 use Rattle.whiteboard.specs.Tests.{those, those-in, those-of, those-different}
 
 -- the product of a list of sets of factors

@@ -18,12 +18,12 @@ use Rattle.regular.specs.ReadingLaws.{record-stands}
 use Rattle.regular.specs.RefusalLaws.{lowest-at}
 use Rattle.regular.specs.Refusals.{SizeFault, ResolutionFault, sizeFaults}
 use Rattle.regular.specs.Smallest.{Before}
-use Rattle.smallest_laws.specs.Dictionary.{not-both}
+use Rattle.smallest_laws.specs.Dictionary.{not-both, equal-sym, equal-before, before-equal}
 use Rattle.counts.specs.Patterns.{pattern-unique}
 use Rattle.whiteboard.specs.BookInstances.{bytes-abc, bytes-abcd, book}
-use Rattle.whiteboard.specs.PlanInstances.{pattern-abc, pattern-abcd, sized-4, short-abc}
+use Rattle.whiteboard.specs.PlanInstances.{pattern-abc, pattern-abcd, sized-4, short-abc, equal-abc, equal-abcd}
 use Rattle.whiteboard.specs.ResultInstances.{plans}
-use Rattle.whiteboard.specs.Samples.{abc, abcd, catalogue-4}
+use Rattle.whiteboard.specs.Samples.{abc, abcd, planABC, planABCD, catalogue-4}
 
 -- the header of N 4, G 1, R 3 and two entries; the entries ABC and ABCD
 abbrev head : List ℕ
@@ -187,17 +187,23 @@ taken-rising = record {
   };
 }
 
--- refused for a list of seven bytes
-pub reads-refused : ReadsPlans rising (replicate 7 9) (replicate 7 9) (refusedBook 8)
+-- refused for a list of eleven bytes
+pub reads-refused : ReadsPlans rising (replicate 11 9) (replicate 11 9) (refusedBook 8)
 reads-refused = record {
-  number = InTurn.passes 8 (header-4 (first ++ second)) (InTurn.stops 8 (omega arith) (Check.fails (λ h. omega arith)));
-  refused = λ _. (refl, refl);
-  taken = λ e. absurd (omega arith);
-  room = λ e. absurd (omega arith);
-  rest = refl;
-  size = refl;
+  reads = record {
+    number = InTurn.passes 8 (header-4 (first ++ second)) (InTurn.stops 8 (omega arith) (Check.fails (λ h. omega arith)));
+    refused = λ _. (refl, refl);
+    taken = λ e. absurd (omega arith);
+    room = λ e. absurd (omega arith);
+    rest = refl;
+    size = refl;
+  };
+  unswitched = λ i h. absurd (omega arith);
 }
 
 -- in the other order they are not taken
 pub not-taken : Taken 4 1 3 2 (λ i. entryOfColumns 4 1 (planAt 4 plans i)) book → ⊥
-not-taken t = not-both 4 abc abcd (inr (catalogue-4 .order 0 1 (omega arith) (omega arith))) (t .rising 0 1 (omega arith) (omega arith))
+not-taken t =
+    not-both 4 abc abcd (inr (catalogue-4 .order 0 1 (omega arith) (omega arith)))
+    (equal-before 4 abcd planABCD abc equal-abcd
+    (before-equal 4 planABCD planABC abc (t .rising 0 1 (omega arith) (omega arith)) (equal-sym 4 abc planABC equal-abc)))

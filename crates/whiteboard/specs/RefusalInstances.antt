@@ -1,68 +1,76 @@
 -- Instances of what is turned away: the nine examples of document 01's table with their lowest number, a fault of every other kind, and one plan
 -- that is accepted in each of its forms.
-use mathlib.Core.Path.{_≡_, refl, sym, ap, subst, _∙_}
-use mathlib.Core.Logic.{⊎-elim, inl, inr, by-cases}
+use mathlib.Core.Path.{_≡_, refl, sym, subst, _∙_}
+use mathlib.Core.Logic.{⊎-elim, inl, inr}
 use mathlib.Core.List.{List, [], _∷_}
 use Prim.Native.Nat.{ℕ, _-_, _^_, _≤_, _<_}
 use native.Mathlib.Omega.{arith}
-use native.Mathlib.Decide.{ℕ-discrete}
 use borrow.Author.Tests.{eqb-true, ltb-true}
 use lib.Count.{ones, onesIn}
 use lib.Dec.{eqb, ltb}
 use lib.ListN.{length, getD}
+use lib.Pow.{pow-pos}
 use Rattle.gf2.specs.Digits.{odd}
 use Rattle.gf2.specs.Lists.{listTo}
 use Rattle.gf2.specs.Members.{In}
 use Rattle.regular.specs.Sizes.{Size}
-use Rattle.regular.specs.Runs.{runsOf, Agree, Table}
-use Rattle.regular.specs.Words.{Word, NoShort, Generated, Independent, total}
-use Rattle.regular.specs.Columns.{planOf, runOf, Below, Spans}
+use Rattle.regular.specs.Runs.{Runs, runsOf, Table}
+use Rattle.regular.specs.Words.{Word, NoShort, Generated, total}
+use Rattle.regular.specs.Columns.{planOf, runOf, Below, Spans, Allowed}
 use Rattle.regular.specs.Designs.{Holds}
-use Rattle.regular.specs.Refusals.{SizeFault, ResolutionFault, WordsFault, ColumnsFault, ListFault, RecordFault, TableFault, WantedFault, LentFault}
-use Rattle.regular.specs.Refusals.{RoomFault, either, sizeFaults, wordsFaults, runsFaults, designFaults, columnsFaults, Lowest}
+use Rattle.regular.specs.PlanBytes.{planBytes, maskIn}
+use Rattle.regular.specs.Refusals.{SizeFault, ResolutionFault, WordsFault, SignFault, ColumnsFault, MaskFault, ListFault, RecordFault, TableFault}
+use Rattle.regular.specs.Refusals.{WantedFault, LentFault, RoomFault, either, sizeFaults, wordsFaults, runsFaults, designFaults, columnsFaults}
+use Rattle.regular.specs.Refusals.{bareFaults, Lowest}
 use Rattle.regular.specs.RefusalLaws.{lowest-none, lowest-at, words-least, none-lowest, lent-is}
 use Rattle.regular.specs.Accepted.{entry-accepted}
 use Rattle.regular.specs.PlanLists.{BytesFault}
 use Rattle.regular.specs.Catalogues.{catalogueFaults}
-use Rattle.regular.specs.Smallest.{Entry}
+use Rattle.regular.specs.Smallest.{Equal, Entry}
 use Rattle.regular.specs.declared.Design.{Design}
-use Rattle.standard.specs.Total.{total-unit}
 use Rattle.words.specs.Short.{repeat-gives-short}
-use Rattle.words.specs.Switches.{agree-sym, no-short-agree, agree-refl}
+use Rattle.words.specs.Switches.{agree-refl}
 use Rattle.counts.specs.FullFactorials.{resolution-long}
+use Rattle.smallest_laws.specs.Growth.{entry-equal}
+use Rattle.counts.specs.GivenWords.{WordsGiven}
 use Rattle.whiteboard.specs.ListTests.{all, all-at}
-use Rattle.whiteboard.specs.PlanInstances.{size-4, runsABC, whole-4, table-abc, not-regular, no-short-abc, short-abc}
-use Rattle.whiteboard.specs.PlanInstances.{below-abc, spans-abc, not-spans, recordABC, dependent-twice, standard-abc}
+use Rattle.whiteboard.specs.PlanInstances.{size-4, runsABC, whole-4, table-abc, not-regular, short-abc, entry-abc, plan-abc, plan-abcd}
+use Rattle.whiteboard.specs.PlanInstances.{not-spans, recordABC, dependent-twice, allowed-none, long-words}
 use Rattle.whiteboard.specs.PlanInstances.{holds-abc, disguised, table-disguised, no-short-disguised, repeat-ab, resolution-full}
-use Rattle.whiteboard.specs.Samples.{abc, abcd, fives, catalogue-4, catalogue-5, words-abcd}
-use Rattle.whiteboard.specs.Tests.{below, below-at, only-zero}
+use Rattle.whiteboard.specs.RowLaws.{is-given}
+use Rattle.whiteboard.specs.Samples.{abc, planABC, planABCD, fives, catalogue-5, words-abc, words-abcd}
+use Rattle.whiteboard.specs.Tests.{below, below-at, agree-at, only-zero}
 
 -- no fault of a size that is one
 pub size-none : (n g : ℕ) → Size n g → (k : ℕ) → SizeFault n g k → ⊥
 size-none n g s k (SizeFault.factors h) = ⊎-elim (λ l. omega (arith, s .some)) (λ l. omega (arith, s .most)) h
 size-none n g s k (SizeFault.generators h) = ⊎-elim (λ l. omega (arith, s .less)) (λ l. omega (arith, s .few)) h
 
+-- no sign is at fault where all are plus
+plus-none : (g k : ℕ) → SignFault g 0 k → ⊥
+plus-none g k (SignFault.past h) = omega (arith, pow-pos g)
+
 -- 1: N 17
-pub refusal-1 : Lowest (wordsFaults 17 1 (7 ∷ [])) 1
-refusal-1 = lowest-at (wordsFaults 17 1 (7 ∷ [])) 1 (omega arith) (inl (SizeFault.factors (inr (omega arith)))) least
+pub refusal-1 : Lowest (wordsFaults 17 1 (7 ∷ []) 0) 1
+refusal-1 = lowest-at (wordsFaults 17 1 (7 ∷ []) 0) 1 (omega arith) (inl (SizeFault.factors (inr (omega arith)))) least
   where
     size : (k : ℕ) → SizeFault 17 1 k → 1 ≤ k
     size k (SizeFault.factors h) = omega arith
     size k (SizeFault.generators h) = omega arith
 
-    least : (k : ℕ) → wordsFaults 17 1 (7 ∷ []) k → 1 ≤ k
-    least k f = ⊎-elim (size k) (λ w. omega (arith, words-least 17 1 (7 ∷ []) k w)) f
+    least : (k : ℕ) → wordsFaults 17 1 (7 ∷ []) 0 k → 1 ≤ k
+    least k f = ⊎-elim (size k) (⊎-elim (λ w. omega (arith, words-least 17 1 (7 ∷ []) k w)) (λ q. absurd (plus-none 1 k q))) f
 
 -- 2: N 9, G 1
-pub refusal-2 : Lowest (wordsFaults 9 1 (7 ∷ [])) 2
-refusal-2 = lowest-at (wordsFaults 9 1 (7 ∷ [])) 2 (omega arith) (inl (SizeFault.generators (inr (omega arith)))) least
+pub refusal-2 : Lowest (wordsFaults 9 1 (7 ∷ []) 0) 2
+refusal-2 = lowest-at (wordsFaults 9 1 (7 ∷ []) 0) 2 (omega arith) (inl (SizeFault.generators (inr (omega arith)))) least
   where
     size : (k : ℕ) → SizeFault 9 1 k → 2 ≤ k
     size k (SizeFault.factors h) = ⊎-elim (λ l. absurd (omega arith)) (λ l. absurd (omega arith)) h
     size k (SizeFault.generators h) = omega arith
 
-    least : (k : ℕ) → wordsFaults 9 1 (7 ∷ []) k → 2 ≤ k
-    least k f = ⊎-elim (size k) (λ w. omega (arith, words-least 9 1 (7 ∷ []) k w)) f
+    least : (k : ℕ) → wordsFaults 9 1 (7 ∷ []) 0 k → 2 ≤ k
+    least k f = ⊎-elim (size k) (⊎-elim (λ w. omega (arith, words-least 9 1 (7 ∷ []) k w)) (λ q. absurd (plus-none 1 k q))) f
 
 -- 3: R 2
 size-5 : Size 5 1
@@ -79,18 +87,20 @@ refusal-3 = lowest-at (sizeFaults 5 1 2) 3 (omega arith) (inr (ResolutionFault.o
 
 -- a list of words of a size: its faults are those of the words
 words-lowest : (n g : ℕ) (ws : List ℕ) (r : ℕ) → Size n g → 0 < r → WordsFault n g ws r → ((k : ℕ) → WordsFault n g ws k → r ≤ k)
-    → Lowest (wordsFaults n g ws) r
-words-lowest n g ws r s p f least = lowest-at (wordsFaults n g ws) r p (inr f) (λ k h. ⊎-elim (λ q. absurd (size-none n g s k q)) (least k) h)
+    → Lowest (wordsFaults n g ws 0) r
+words-lowest n g ws r s p f least =
+    lowest-at (wordsFaults n g ws 0) r p (inr (inl f))
+    (λ k h. ⊎-elim (λ q. absurd (size-none n g s k q)) (⊎-elim (least k) (λ q. absurd (plus-none g k q))) h)
 
 -- 4: N 5, G 1, two words
-pub refusal-4 : Lowest (wordsFaults 5 1 (7 ∷ 11 ∷ [])) 4
+pub refusal-4 : Lowest (wordsFaults 5 1 (7 ∷ 11 ∷ []) 0) 4
 refusal-4 = words-lowest 5 1 (7 ∷ 11 ∷ []) 4 size-5 (omega arith) (WordsFault.count (λ e. omega arith)) (words-least 5 1 (7 ∷ 11 ∷ []))
 
 -- 5: N 3, G 1, word 8
-size-3 : Size 3 1
+pub size-3 : Size 3 1
 size-3 = record { some = omega arith; most = omega arith; less = omega arith; few = omega arith }
 
-pub refusal-5 : Lowest (wordsFaults 3 1 (8 ∷ [])) 5
+pub refusal-5 : Lowest (wordsFaults 3 1 (8 ∷ []) 0) 5
 refusal-5 = words-lowest 3 1 (8 ∷ []) 5 size-3 (omega arith) (WordsFault.past 0 (omega arith) (omega arith)) least
   where
     least : (k : ℕ) → WordsFault 3 1 (8 ∷ []) k → 5 ≤ k
@@ -100,7 +110,7 @@ refusal-5 = words-lowest 3 1 (8 ∷ []) 5 size-3 (omega arith) (WordsFault.past 
     least k (WordsFault.short h) = omega arith
 
 -- 6: N 4, G 2, word 7 twice
-pub refusal-6 : Lowest (wordsFaults 4 2 (7 ∷ 7 ∷ [])) 6
+pub refusal-6 : Lowest (wordsFaults 4 2 (7 ∷ 7 ∷ []) 0) 6
 unfolding below
 refusal-6 = words-lowest 4 2 (7 ∷ 7 ∷ []) 6 size (omega arith) (WordsFault.dependent dependent-twice) least
   where
@@ -117,7 +127,7 @@ refusal-6 = words-lowest 4 2 (7 ∷ 7 ∷ []) 6 size (omega arith) (WordsFault.d
     least k (WordsFault.short h) = omega arith
 
 -- 7: N 3, G 1, word 3
-pub refusal-7 : Lowest (wordsFaults 3 1 (3 ∷ [])) 7
+pub refusal-7 : Lowest (wordsFaults 3 1 (3 ∷ []) 0) 7
 unfolding total below odd ones onesIn
 refusal-7 = words-lowest 3 1 (3 ∷ []) 7 size-3 (omega arith) (WordsFault.short (record { word = 3; is = word; few = omega arith })) least
   where
@@ -139,66 +149,71 @@ columns-none n m c b s ns k (ColumnsFault.above f l h) = omega (arith, b f l)
 columns-none n m c b s ns k (ColumnsFault.rank h) = h s
 columns-none n m c b s ns k (ColumnsFault.short h) = omega (arith, h .few, ns (h .word) (h .is))
 
-list-none : (n : ℕ) (c : List ℕ) → length c ≡ n → (k : ℕ) → ListFault n c k → ⊥
+pub list-none : (n : ℕ) (c : List ℕ) → length c ≡ n → (k : ℕ) → ListFault n c k → ⊥
 list-none n c e k (ListFault.count h) = h e
 
-columns-accepted : (n g : ℕ) (c : List ℕ) → Size n g → length c ≡ n → Below n (n - g) c → Spans n (n - g) c → NoShort n 3 (planOf n (n - g) c)
-    → Lowest (columnsFaults n g c) 0
-columns-accepted n g c s e b sp ns =
-    lowest-none (columnsFaults n g c) (λ k f. ⊎-elim (size-none n g s k) (λ h. ⊎-elim (list-none n c e k) (columns-none n (n - g) c b sp ns k) h) f)
+pub mask-none : (n : ℕ) (s : Runs) (mask : ℕ) → Allowed n s mask → (k : ℕ) → MaskFault n s mask k → ⊥
+mask-none n s mask a k (MaskFault.barred h) = h a
 
-pub accepted-columns : Lowest (columnsFaults 4 1 abc) 0
-accepted-columns = columns-accepted 4 1 abc size-4 refl below-abc spans-abc no-short-abc
+-- n columns alone; a plan's bytes; and those of an entry without switches
+pub bare-accepted : (n g : ℕ) (c : List ℕ) → Size n g → length c ≡ n → Entry n (n - g) 3 c → Lowest (bareFaults n g c) 0
+bare-accepted n g c s e k =
+    lowest-none (bareFaults n g c) (λ i f. ⊎-elim (size-none n g s i) (⊎-elim (list-none n c e i)
+    (columns-none n (n - g) c (k .smallest .columns .below) (k .smallest .columns .rank) (k .long) i)) f)
 
-pub accepted-abcd : Lowest (columnsFaults 4 1 abcd) 0
-accepted-abcd =
-    let k = catalogue-4 .sound 1 (omega arith) in columns-accepted 4 1 abcd size-4 refl (k .smallest .columns .below) (k .smallest .columns .rank) (k .long)
+pub bytes-accepted : (n g : ℕ) (c : List ℕ) → Size n g → length c ≡ planBytes n → Below n (n - g) c → Spans n (n - g) c → NoShort n 3 (planOf n (n - g) c)
+    → Allowed n (planOf n (n - g) c) (maskIn n c) → Lowest (columnsFaults n g c) 0
+bytes-accepted n g c s e b sp ns a =
+    lowest-none (columnsFaults n g c) (λ i f. ⊎-elim (size-none n g s i) (⊎-elim (list-none (planBytes n) c e i)
+    (⊎-elim (columns-none n (n - g) c b sp ns i) (mask-none n (planOf n (n - g) c) (maskIn n c) a i))) f)
 
--- one word w that generates the plan of an entry
-one-word : (w : ℕ) (c : List ℕ) → w < 16 → 0 < w → Entry 4 3 3 c → Agree (Generated 4 1 (w ∷ [])) (planOf 4 3 c) → Lowest (wordsFaults 4 1 (w ∷ [])) 0
-unfolding total
-one-word w c l p e a = lowest-none (wordsFaults 4 1 (w ∷ [])) (λ k f. ⊎-elim (size-none 4 1 size-4 k) (none k) f)
+entry-accepted-bytes : (n g : ℕ) (c : List ℕ) → Size n g → length c ≡ planBytes n → maskIn n c ≡ 0 → Entry n (n - g) 3 c → Lowest (columnsFaults n g c) 0
+entry-accepted-bytes n g c s e z k =
+    bytes-accepted n g c s e (k .smallest .columns .below) (k .smallest .columns .rank) (k .long)
+    (subst (Allowed n (planOf n (n - g) c)) (sym z) (allowed-none n (planOf n (n - g) c)))
+
+pub accepted-bare : Lowest (bareFaults 4 1 abc) 0
+accepted-bare = bare-accepted 4 1 abc size-4 refl entry-abc
+
+pub accepted-columns : Lowest (columnsFaults 4 1 planABC) 0
+accepted-columns = entry-accepted-bytes 4 1 planABC size-4 refl refl plan-abc
+
+pub accepted-abcd : Lowest (columnsFaults 4 1 planABCD) 0
+accepted-abcd = entry-accepted-bytes 4 1 planABCD size-4 refl refl plan-abcd
+
+-- independent words and signs of a plan that has no word below three letters
+pub words-accepted : (n g : ℕ) (ws : List ℕ) (signs : ℕ) → Size n g → length ws ≡ g → WordsGiven n g ws → NoShort n 3 (Generated n g ws) → signs < 2 ^ g
+    → Lowest (wordsFaults n g ws signs) 0
+words-accepted n g ws signs s e given long few =
+    lowest-none (wordsFaults n g ws signs) (λ k f. ⊎-elim (size-none n g s k) (⊎-elim (none k) (sign k)) f)
   where
-    within : (i : ℕ) → i < 1 → getD (w ∷ []) i 0 < 16
-    within i h = let z : i ≡ 0 = omega arith in subst (λ (j : ℕ). getD (w ∷ []) j 0 < 16) (sym z) l
-
-    independent : Independent 1 (w ∷ [])
-    independent s h z =
-        by-cases (ℕ-discrete s 0) (λ q. q) (λ ne.
-        absurd (omega (arith, sym (total-unit (w ∷ []) 0 1 (omega arith)) ∙ sym (ap (total (w ∷ []) 1) (one s h ne)) ∙ z)))
-      where
-        one : (s : ℕ) → s < 2 ^ 1 → (s ≡ 0 → ⊥) → s ≡ 1
-        one s h ne = omega arith
-
-    long : NoShort 4 3 (Generated 4 1 (w ∷ []))
-    long = no-short-agree 4 (planOf 4 3 c) (Generated 4 1 (w ∷ [])) (agree-sym (Generated 4 1 (w ∷ [])) (planOf 4 3 c) a) 3 (e .long)
-
-    none : (k : ℕ) → WordsFault 4 1 (w ∷ []) k → ⊥
-    none k (WordsFault.count h) = h refl
-    none k (WordsFault.past i m h) = omega (arith, within i m)
-    none k (WordsFault.dependent h) = h independent
+    none : (k : ℕ) → WordsFault n g ws k → ⊥
+    none k (WordsFault.count h) = h e
+    none k (WordsFault.past i l h) = omega (arith, given .within i (omega arith))
+    none k (WordsFault.dependent h) = h (given .independent)
     none k (WordsFault.short h) = omega (arith, h .few, long (h .word) (h .is))
 
-pub accepted-words : Lowest (wordsFaults 4 1 (7 ∷ [])) 0
-accepted-words = one-word 7 abc (omega arith) (omega arith) (catalogue-4 .sound 0 (omega arith)) (standard-abc .plan)
+    sign : (k : ℕ) → SignFault g signs k → ⊥
+    sign k (SignFault.past h) = omega arith
 
-pub accepted-word-abcd : Lowest (wordsFaults 4 1 (15 ∷ [])) 0
-accepted-word-abcd = one-word 15 abcd (omega arith) (omega arith) (catalogue-4 .sound 1 (omega arith)) (words-abcd .columns .plan)
+pub accepted-words : Lowest (wordsFaults 4 1 (7 ∷ []) 0) 0
+unfolding total below
+accepted-words =
+    words-accepted 4 1 (7 ∷ []) 0 size-4 refl (is-given 4 1 (7 ∷ []) refl) (long-words (1 ∷ 0 ∷ []) (words-abc .pattern)) (omega arith)
+
+pub accepted-word-abcd : Lowest (wordsFaults 4 1 (15 ∷ []) 0) 0
+unfolding total below
+accepted-word-abcd =
+    words-accepted 4 1 (15 ∷ []) 0 size-4 refl (is-given 4 1 (15 ∷ []) refl) (long-words (0 ∷ 1 ∷ []) (words-abcd .pattern)) (omega arith)
 
 -- no words
-pub accepted-no-words : Lowest (wordsFaults 3 0 []) 0
-accepted-no-words = lowest-none (wordsFaults 3 0 []) (λ k f. ⊎-elim (size-none 3 0 size k) (none k) f)
-  where
-    size : Size 3 0
-    size = record { some = omega arith; most = omega arith; less = omega arith; few = omega arith }
+pub accepted-no-words : Lowest (wordsFaults 3 0 [] 0) 0
+unfolding total below
+accepted-no-words =
+    words-accepted 3 0 [] 0 (record { some = omega arith; most = omega arith; less = omega arith; few = omega arith }) refl (is-given 3 0 [] refl)
+    (resolution-long 3 (Generated 3 0 []) 3 4 resolution-full (omega arith)) (omega arith)
 
-    none : (k : ℕ) → WordsFault 3 0 [] k → ⊥
-    none k (WordsFault.count h) = h refl
-    none k (WordsFault.past i l h) = omega arith
-    none k (WordsFault.dependent h) = h (λ s l e. omega arith)
-    none k (WordsFault.short h) = omega (arith, h .few, resolution-long 3 (Generated 3 0 []) 3 4 resolution-full (omega arith) (h .word) (h .is))
-
-runs-none : (n m : ℕ) (t : List ℕ) → Table n m t → NoShort n 3 (runsOf t) → (k : ℕ) → TableFault n m t k → ⊥
+pub runs-none : (n m : ℕ) (t : List ℕ) → Table n m t → NoShort n 3 (runsOf t) → (k : ℕ) → TableFault n m t k → ⊥
 runs-none n m t tab ns k (TableFault.count h) = h (tab .count)
 runs-none n m t tab ns k (TableFault.past x i h) = omega (arith, tab .within x i)
 runs-none n m t tab ns k (TableFault.repeated h) = h (tab .different)
@@ -239,20 +254,31 @@ refused-runs =
     least k (TableFault.short h) = omega arith
 
 -- 8: a witness of 4 for N 5
-accepted-5 : (i : ℕ) (h : i < 3) → length (getD fives i []) ≡ 5 → Lowest (columnsFaults 5 1 (getD fives i [])) 0
-accepted-5 i h e =
-    let k = catalogue-5 .sound i h in
-    columns-accepted 5 1 (getD fives i []) size-5 e (k .smallest .columns .below) (k .smallest .columns .rank) (k .long)
+abbrev pub fiveABC : List ℕ
+fiveABC = 1 ∷ 2 ∷ 3 ∷ 4 ∷ 8 ∷ 0 ∷ 0 ∷ []
 
-pub refusal-8 : Lowest (either (either (columnsFaults 5 1 (1 ∷ 2 ∷ 3 ∷ 4 ∷ 8 ∷ [])) (columnsFaults 5 1 (1 ∷ 2 ∷ 4 ∷ 7 ∷ 8 ∷ [])))
-    (LentFault 5 (0 ∷ 0 ∷ 0 ∷ 0 ∷ []))) 8
+abbrev pub fiveABCD : List ℕ
+fiveABCD = 1 ∷ 2 ∷ 4 ∷ 7 ∷ 8 ∷ 0 ∷ 0 ∷ []
+
+accepted-5 : (i : ℕ) (h : i < 3) (c : List ℕ) → Equal 5 (getD fives i []) c → length c ≡ 7 → maskIn 5 c ≡ 0 → Lowest (columnsFaults 5 1 c) 0
+accepted-5 i h c e l z = entry-accepted-bytes 5 1 c size-5 l z (entry-equal 5 4 (getD fives i []) c e 3 (catalogue-5 .sound i h))
+
+accepted-five-abc : Lowest (columnsFaults 5 1 fiveABC) 0
+unfolding below
+accepted-five-abc = accepted-5 0 (omega arith) fiveABC (agree-at (λ f. getD (getD fives 0 []) f 0) (λ f. getD fiveABC f 0) 5 refl) refl refl
+
+accepted-five-abcd : Lowest (columnsFaults 5 1 fiveABCD) 0
+unfolding below
+accepted-five-abcd = accepted-5 1 (omega arith) fiveABCD (agree-at (λ f. getD (getD fives 1 []) f 0) (λ f. getD fiveABCD f 0) 5 refl) refl refl
+
+pub refusal-8 : Lowest (either (either (columnsFaults 5 1 fiveABC) (columnsFaults 5 1 fiveABCD)) (LentFault 5 (0 ∷ 0 ∷ 0 ∷ 0 ∷ []))) 8
 refusal-8 =
-    lowest-at (either (either (columnsFaults 5 1 (1 ∷ 2 ∷ 3 ∷ 4 ∷ 8 ∷ [])) (columnsFaults 5 1 (1 ∷ 2 ∷ 4 ∷ 7 ∷ 8 ∷ []))) (LentFault 5 (0 ∷ 0 ∷ 0 ∷ 0 ∷ [])))
+    lowest-at (either (either (columnsFaults 5 1 fiveABC) (columnsFaults 5 1 fiveABCD)) (LentFault 5 (0 ∷ 0 ∷ 0 ∷ 0 ∷ [])))
     8 (omega arith) (inr (LentFault.few (omega arith)))
     (λ k f. ⊎-elim
     (λ p. ⊎-elim
-    (λ a. absurd (none-lowest (columnsFaults 5 1 (1 ∷ 2 ∷ 3 ∷ 4 ∷ 8 ∷ [])) (accepted-5 0 (omega arith) refl) k a))
-    (λ b. absurd (none-lowest (columnsFaults 5 1 (1 ∷ 2 ∷ 4 ∷ 7 ∷ 8 ∷ [])) (accepted-5 1 (omega arith) refl) k b)) p)
+    (λ a. absurd (none-lowest (columnsFaults 5 1 fiveABC) accepted-five-abc k a))
+    (λ b. absurd (none-lowest (columnsFaults 5 1 fiveABCD) accepted-five-abcd k b)) p)
     (λ l. omega (arith, lent-is 5 (0 ∷ 0 ∷ 0 ∷ 0 ∷ []) k l)) f)
 
 -- 9: N 5, G 1, R 3, a list of 2
@@ -328,5 +354,5 @@ fault-wanted = WantedFault.short short-abc
 pub fault-lent : LentFault 4 (9 ∷ 9 ∷ []) 8
 fault-lent = LentFault.few (omega arith)
 
-pub fault-bytes : BytesFault 4 (1 ∷ 2 ∷ 4 ∷ []) 4
+pub fault-bytes : BytesFault 4 (1 ∷ 2 ∷ 4 ∷ 7 ∷ []) 4
 fault-bytes = BytesFault.count (λ count e. omega arith)

@@ -1,33 +1,40 @@
 -- A row that passes its tests is true: one law for each kind of row, and so for a whole table.
 use mathlib.Core.Path.{_≡_, sym, ap, subst, _∙_}
-use mathlib.Core.Bool.{true}
+use mathlib.Core.Bool.{true, not, _||_}
+use mathlib.Core.Logic.{⊎-elim}
 use mathlib.Core.List.{List, [], _∷_}
 use Prim.Native.Nat.{ℕ, zero, suc, _+_, _-_, _^_, _≤_}
 use native.Mathlib.Omega.{arith}
 use borrow.Author.Tests.{eqb-true, eqb-false, leb-true, ltb-true, not-true}
-use lib.Bits.{bitXor}
+use lib.Bits.{bitXor, xor-zero-r}
 use lib.Dec.{eqb, ltb}
 use lib.ListN.{getD, length}
 use lib.Pow.{pow-pos}
 use Rattle.gf2.specs.Counts.{Count}
+use Rattle.gf2.specs.Digits.{bit, odd}
+use Rattle.gf2.specs.Truth.{or-cases}
 use Rattle.regular.specs.Columns.{planOf, runOf, Listed}
 use Rattle.regular.specs.Comparisons.{Differ}
 use Rattle.regular.specs.Smallest.{Catalogue}
 use Rattle.regular.specs.Pattern.{Pattern, Resolution, Distances, ofLength}
-use Rattle.regular.specs.Words.{Word, Generated, letters, total}
+use Rattle.regular.specs.Words.{Word, Generated, Fraction, letters, total}
+use Rattle.standard.specs.Form.{unitsBefore}
 use Rattle.standard.specs.Runs.{run-zero}
 use Rattle.words.specs.Model.{wordColumns, pivotsAt}
 use Rattle.words.specs.Standards.{form-standard, standard-cols}
 use Rattle.counts.specs.Distances.{levels-count}
+use Rattle.counts.specs.GivenWords.{WordsGiven, given-standard, given-generators}
 use Rattle.counts.specs.Models.{products, firstLength}
 use Rattle.counts.specs.Resolutions.{resolution-of-pattern}
 use Rattle.counts.specs.Tally.{tally}
 use Rattle.counts.specs.WordCounts.{length-count}
+use Rattle.signs.specs.FractionLaws.{fraction-standard}
+use Rattle.signs.specs.MaskLaws.{mask-of-standard}
+use Rattle.signs.specs.Masks.{MaskOf}
 use Rattle.catalogue_laws.specs.Listing.{model-catalogue}
 use Rattle.catalogue_laws.specs.Model.{entries}
-use Rattle.whiteboard.specs.GivenWords.{WordsGiven, given-standard, given-generators}
 use Rattle.whiteboard.specs.Products.{given-multiply, Multiply, multiply-same, product, ofLetters}
-use Rattle.whiteboard.specs.Rows.{Row, RunsRow, WordsRow, DifferentRow, CatalogueRow, Says, given, counts, tests, AllTrue, allPass}
+use Rattle.whiteboard.specs.Rows.{Row, RunsRow, WordsRow, SignedRow, DifferentRow, CatalogueRow, Says, given, counts, tests, AllTrue, allPass}
 use Rattle.whiteboard.specs.Tests.{every, Passed, passed, below-at, agree-at, only-zero, alike, alike-is}
 
 -- columns, their runs and distance counts
@@ -48,7 +55,7 @@ runs-true n m c t d e =
     }
 
 -- what the tests of words and of a pattern say
-is-given : (n g : ℕ) (ws : List ℕ) → every (given n g ws) ≡ true → WordsGiven n g ws
+pub is-given : (n g : ℕ) (ws : List ℕ) → every (given n g ws) ≡ true → WordsGiven n g ws
 is-given n g ws e =
     let p = passed (given n g ws) e in
     record {
@@ -84,6 +91,37 @@ words-true n g ws c p r e =
       resolution = subst (Resolution n s) (eqb-true (firstLength n p) r (e .1 .1 .1 .0)) (resolution-of-pattern n s p q);
     }
 
+-- words with signs: the mask is one of their runs, and high at every basic factor
+signed-true : (n g : ℕ) (ws : List ℕ) (signs : ℕ) (c : List ℕ) (mask : ℕ) (t : List ℕ) → Passed (tests (Row.signed n g ws signs c mask t))
+    → SignedRow n g (Fraction n g ws signs) c mask t
+signed-true n g ws signs c mask t e =
+    let a = wordColumns (pivotsAt ws n g) n in
+    let st = standard-cols n (n - g) (Generated n g ws) a c (given-standard n g ws (is-given n g ws (e .0)))
+    (agree-at (λ f. getD a f 0) (λ f. getD c f 0) n (e .1 .0)) in
+    let run : Fraction n g ws signs mask = record {
+      within = ltb-true mask (2 ^ n) (e .1 .1 .0);
+      product = agree-at (λ i. odd mask (getD ws i 0)) (λ i. bit i signs) g (e .1 .1 .1 .0);
+    } in
+    let own : MaskOf n c mask mask = record {
+      run = 0;
+      below = pow-pos (unitsBefore c n);
+      is = sym (ap (bitXor mask) (run-zero c n) ∙ xor-zero-r mask);
+      high = λ f h u. high-at f u
+          (below-at (λ i. not (eqb (getD c i 0) (2 ^ unitsBefore c i)) || eqb (bit i mask) 0) n (e .1 .1 .1 .1 .0) f h);
+    } in
+    let sizes = e .1 .1 .1 .1 .1 .1 in
+    record {
+      sizes = (eqb-true (length c) n (sizes .0), eqb-true (length t) (2 ^ (n - g)) (sizes .1 .0));
+      columns = mask-of-standard n (n - g) (Fraction n g ws signs) mask c mask (fraction-standard n g ws signs mask c run st) own (run .within);
+      table = agree-at (λ j. getD t j 0) (λ j. bitXor (runOf c n j) mask) (2 ^ (n - g)) (e .1 .1 .1 .1 .1 .0);
+    }
+  where
+    high-at : (f : ℕ) → getD c f 0 ≡ 2 ^ unitsBefore c f → (not (eqb (getD c f 0) (2 ^ unitsBefore c f)) || eqb (bit f mask) 0) ≡ true → bit f mask ≡ 0
+    high-at f u o =
+        let unit = eqb (getD c f 0) (2 ^ unitsBefore c f) in
+        ⊎-elim (λ q. absurd (eqb-false (getD c f 0) (2 ^ unitsBefore c f) (not-true unit q) u)) (eqb-true (bit f mask) 0)
+        (or-cases (not unit) (eqb (bit f mask) 0) o)
+
 -- different plans of one pattern
 different-true : (n g : ℕ) (vs ws p : List ℕ) (l v w : ℕ) → Passed (tests (Row.different n g vs ws p l v w))
     → DifferentRow n (Generated n g vs) (Generated n g ws) p l v w
@@ -118,6 +156,7 @@ catalogue-true n g low high es e r a b =
 row-true : (r : Row) → Passed (tests r) → Says r
 row-true (Row.runs n m c t d) e = runs-true n m c t d e
 row-true (Row.words n g ws c p r) e = words-true n g ws c p r e
+row-true (Row.signed n g ws signs c mask t) e = signed-true n g ws signs c mask t e
 row-true (Row.different n g vs ws p l v w) e = different-true n g vs ws p l v w e
 row-true (Row.catalogue n g low high es) e = catalogue-true n g low high es e
 

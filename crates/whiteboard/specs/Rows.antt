@@ -1,18 +1,21 @@
 -- The kinds of examples: a row of the table is plain numbers; what it says, by the definitions of document 01; and a test of it that computes.
 -- That a row which passes is true is proved in RowLaws. A further kind of example is a constructor here, with its meaning, its test and its law.
-use mathlib.Core.Bool.{Bool, not, true}
+use mathlib.Core.Bool.{Bool, not, true, _||_}
 use mathlib.Core.List.{List, [], _∷_}
 use mathlib.Core.Path.{_≡_}
 use Prim.Native.Nat.{ℕ, suc, _+_, _-_, _^_, _≤_}
+use lib.Bits.{bitXor}
 use lib.Dec.{eqb, leb, ltb}
 use lib.ListN.{getD, length}
-use Rattle.regular.specs.Columns.{planOf, runOf, Listed, StandardColumns}
+use Rattle.gf2.specs.Digits.{bit, odd}
+use Rattle.regular.specs.Columns.{planOf, runOf, Listed, ListedWith, StandardColumns, Standard}
 use Rattle.regular.specs.Comparisons.{Differ}
 use Rattle.regular.specs.Pattern.{Pattern, Resolution, Distances, ofLength}
 use Rattle.regular.specs.Runs.{Runs}
 use Rattle.regular.specs.Same.{Same}
 use Rattle.regular.specs.Smallest.{Catalogue}
-use Rattle.regular.specs.Words.{Generated, letters, total}
+use Rattle.regular.specs.Words.{Generated, Fraction, letters, total}
+use Rattle.standard.specs.Form.{unitsBefore}
 use Rattle.words.specs.Model.{wordColumns, pivotsAt}
 use Rattle.counts.specs.Models.{products, firstLength}
 use Rattle.counts.specs.Tally.{tally}
@@ -25,6 +28,8 @@ pub data Row : Type 0 where
   runs : (n m : ℕ) (columns table distances : List ℕ) → Row
   -- g words of n factors, and the columns, the pattern and the resolution of the plan that they generate
   words : (n g : ℕ) (words columns pattern : List ℕ) (resolution : ℕ) → Row
+  -- g words of n factors with signs, and the columns, the mask and the runs of their plan
+  signed : (n g : ℕ) (words : List ℕ) (signs : ℕ) (columns : List ℕ) (mask : ℕ) (table : List ℕ) → Row
   -- two lists of g words, the pattern that both plans have, and what their words of l letters multiply to
   different : (n g : ℕ) (words others pattern : List ℕ) (l product another : ℕ) → Row
   -- n factors, g generators, and the entries of the catalogue, the same at each resolution from low to high
@@ -43,6 +48,12 @@ pub record WordsRow (n g : ℕ) (s : Runs) (c p : List ℕ) (r : ℕ) : Type 0 w
   pub pattern : Pattern n s p
   pub resolution : Resolution n s r
 
+-- the columns, the mask and the runs of a plan of g generators
+pub record SignedRow (n g : ℕ) (s : Runs) (c : List ℕ) (mask : ℕ) (t : List ℕ) : Type 0 where
+  pub sizes : (length c ≡ n) × (length t ≡ 2 ^ (n - g))
+  pub columns : Standard n (n - g) s c mask
+  pub table : ListedWith n (n - g) c mask t
+
 -- different plans with the one pattern p, so length 0; the words of l letters multiply to v in the one and to w in the other
 pub record DifferentRow (n : ℕ) (s t : Runs) (p : List ℕ) (l v w : ℕ) : Type 0 where
   pub different : Same n s t → ⊥
@@ -59,6 +70,7 @@ CatalogueRow n g low high es = (r : ℕ) → low ≤ r → r ≤ high → Catalo
 abbrev pub Says : Row → Type 0
 Says (Row.runs n m c t d) = RunsRow n m c t d
 Says (Row.words n g ws c p r) = WordsRow n g (Generated n g ws) c p r
+Says (Row.signed n g ws signs c mask t) = SignedRow n g (Fraction n g ws signs) c mask t
 Says (Row.different n g vs ws p l v w) = DifferentRow n (Generated n g vs) (Generated n g ws) p l v w
 Says (Row.catalogue n g low high es) = CatalogueRow n g low high es
 
@@ -69,6 +81,10 @@ given n g ws = leb n 16 ∷ leb g n ∷ below (λ i. ltb (getD ws i 0) (2 ^ n)) 
 -- a test of a pattern: it has the number of products of each length
 abbrev pub counts : ℕ → ℕ → List ℕ → List ℕ → Bool
 counts n g ws p = agree (λ i. ofLength p (suc i)) (λ i. products g ws (suc i)) n
+
+-- a test of a mask: it is 0 at every factor that takes the next of 1, 2, 4 and so on
+abbrev pub high : ℕ → List ℕ → ℕ → Bool
+high n c mask = below (λ f. not (eqb (getD c f 0) (2 ^ unitsBefore c f)) || eqb (bit f mask) 0) n
 
 -- the tests of a row
 abbrev pub tests : Row → List Bool
@@ -87,6 +103,16 @@ tests (Row.words n g ws c p r) =
     ∷ eqb (firstLength n p) r
     ∷ eqb (length c) n
     ∷ eqb (length p) n
+    ∷ []
+tests (Row.signed n g ws signs c mask t) =
+    every (given n g ws)
+    ∷ agree (λ f. getD (wordColumns (pivotsAt ws n g) n) f 0) (λ f. getD c f 0) n
+    ∷ ltb mask (2 ^ n)
+    ∷ agree (λ i. odd mask (getD ws i 0)) (λ i. bit i signs) g
+    ∷ high n c mask
+    ∷ agree (λ j. getD t j 0) (λ j. bitXor (runOf c n j) mask) (2 ^ (n - g))
+    ∷ eqb (length c) n
+    ∷ eqb (length t) (2 ^ (n - g))
     ∷ []
 tests (Row.different n g vs ws p l v w) =
     every (given n g vs)

@@ -31,6 +31,13 @@ abc = 1 ∷ 2 ∷ 3 ∷ 4 ∷ []
 abbrev pub abcd : List ℕ
 abcd = 1 ∷ 2 ∷ 4 ∷ 7 ∷ []
 
+-- the bytes of these plans: the columns, and two of no switches
+abbrev pub planABC : List ℕ
+planABC = 1 ∷ 2 ∷ 3 ∷ 4 ∷ 0 ∷ 0 ∷ []
+
+abbrev pub planABCD : List ℕ
+planABCD = 1 ∷ 2 ∷ 4 ∷ 7 ∷ 0 ∷ 0 ∷ []
+
 -- N 5, G 1: the three entries
 abbrev pub fives : List (List ℕ)
 fives = (1 ∷ 2 ∷ 3 ∷ 4 ∷ 8 ∷ []) ∷ (1 ∷ 2 ∷ 4 ∷ 7 ∷ 8 ∷ []) ∷ (1 ∷ 2 ∷ 4 ∷ 8 ∷ 15 ∷ []) ∷ []
@@ -59,6 +66,18 @@ printed =
     ∷ Row.words 5 2 (19 ∷ 14 ∷ []) (1 ∷ 2 ∷ 4 ∷ 6 ∷ 3 ∷ []) (0 ∷ 0 ∷ 2 ∷ 1 ∷ 0 ∷ []) 3
     ∷ []
 
+-- Words with signs (document 02, request 5): ABC with a minus, of three and of four factors; ABDE and CDE, the one or the other with a minus; and these
+-- words without signs.
+abbrev pub signed : List Row
+signed =
+    Row.signed 3 1 (7 ∷ []) 1 (1 ∷ 2 ∷ 3 ∷ []) 4 (4 ∷ 1 ∷ 2 ∷ 7 ∷ [])
+    ∷ Row.signed 4 1 (7 ∷ []) 1 abc 4 (4 ∷ 1 ∷ 2 ∷ 7 ∷ 12 ∷ 9 ∷ 10 ∷ 15 ∷ [])
+    ∷ Row.signed 5 2 (27 ∷ 28 ∷ []) 1 (1 ∷ 2 ∷ 3 ∷ 4 ∷ 7 ∷ []) 20 (20 ∷ 1 ∷ 2 ∷ 23 ∷ 12 ∷ 25 ∷ 26 ∷ 15 ∷ [])
+    ∷ Row.signed 5 2 (27 ∷ 28 ∷ []) 2 (1 ∷ 2 ∷ 3 ∷ 4 ∷ 7 ∷ []) 4 (4 ∷ 17 ∷ 18 ∷ 7 ∷ 28 ∷ 9 ∷ 10 ∷ 31 ∷ [])
+    ∷ Row.words 3 1 (7 ∷ []) (1 ∷ 2 ∷ 3 ∷ []) (0 ∷ 0 ∷ 1 ∷ []) 3
+    ∷ Row.words 5 2 (27 ∷ 28 ∷ []) (1 ∷ 2 ∷ 3 ∷ 4 ∷ 7 ∷ []) (0 ∷ 0 ∷ 2 ∷ 1 ∷ 0 ∷ []) 3
+    ∷ []
+
 -- every row passes its tests, by computation
 small-pass : allPass small ≡ true
 unfolding ones onesIn odd runOf total reduced lastOf pivotsAt freeBefore wordColumns firstLength tally product below those alike
@@ -70,12 +89,19 @@ unfolding ones onesIn odd runOf total reduced lastOf pivotsAt freeBefore wordCol
     short fits may branch listing beaten anyTo compare reached vec present unitsBefore
 printed-pass = refl
 
+signed-pass : allPass signed ≡ true
+unfolding ones onesIn odd runOf total reduced lastOf pivotsAt freeBefore wordColumns firstLength tally product below those alike unitsBefore
+signed-pass = refl
+
 -- so every row is true of the definitions
 pub samples : AllTrue small
 samples = table-true small small-pass
 
 pub printed-samples : AllTrue printed
 printed-samples = table-true printed printed-pass
+
+pub signed-samples : AllTrue signed
+signed-samples = table-true signed signed-pass
 
 -- the rows by their names
 pub catalogue-4 : Catalogue 4 3 3 2 (λ i. getD (abc ∷ abcd ∷ []) i [])
@@ -92,3 +118,9 @@ runs-abc = samples .1 .1 .1 .0
 
 pub catalogue-5 : Catalogue 5 4 3 3 (λ i. getD fives i [])
 catalogue-5 = samples .1 .1 .1 .1 .1 .0 3 (omega arith) (omega arith)
+
+pub words-three : WordsRow 3 1 (Generated 3 1 (7 ∷ [])) (1 ∷ 2 ∷ 3 ∷ []) (0 ∷ 0 ∷ 1 ∷ []) 3
+words-three = signed-samples .1 .1 .1 .1 .0
+
+pub words-five : WordsRow 5 2 (Generated 5 2 (27 ∷ 28 ∷ [])) (1 ∷ 2 ∷ 3 ∷ 4 ∷ 7 ∷ []) (0 ∷ 0 ∷ 2 ∷ 1 ∷ 0 ∷ []) 3
+words-five = signed-samples .1 .1 .1 .1 .1 .0

@@ -44,10 +44,10 @@ units-count a (suc f) =
 
 -- columns in standard form: the basic factors are those of the units
 module _ (n m : ℕ) (s : Runs) (a : List ℕ) (st : StandardFor n m s a) where
-  unit-basic : (f : ℕ) → f < n → isUnit a f → Basic n s f
+  pub unit-basic : (f : ℕ) → f < n → isUnit a f → Basic n s f
   unit-basic f h u w word last = basic-last-of-none n m a (st .form) f h u w (word-agree n s (planOf n m a) (st .plan) w word) last
 
-  basic-unit : (f : ℕ) → f < n → Basic n s f → isUnit a f
+  pub basic-unit : (f : ℕ) → f < n → Basic n s f → isUnit a f
   basic-unit f h b =
       by-cases (ℕ-discrete (getD a f 0) (2 ^ unitsBefore a f)) (λ u. u)
       (λ ne.

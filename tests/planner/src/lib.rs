@@ -3,6 +3,8 @@
 //!
 //! A list goes as a pointer and then its count of elements. Each call on one plan answers the number of document 01's refusal, 0 if it
 //! accepts; a refused call leaves the lent list untouched, and an accepted one leaves the places past its result untouched.
+//!
+//! A plan in bytes is its N columns and the two bytes of its switch mask, low byte first: N + 2 places.
 
 /// A comparison's answer for plans that are the same, to which the witness's mask is added.
 pub const PLAN_SAME: u32 = 0x1_0000;
@@ -21,20 +23,29 @@ mod exported {
             g: usize,
             words: *const u16,
             words_count: usize,
-            columns: *mut u8,
-            columns_count: usize,
+            signs: u16,
+            plan: *mut u8,
+            plan_count: usize,
         ) -> u8;
-        pub fn plan_columns_of_runs(n: usize, g: usize, runs: *const u16, runs_count: usize, columns: *mut u8, columns_count: usize) -> u8;
+        pub fn plan_columns_of_runs(n: usize, g: usize, runs: *const u16, runs_count: usize, plan: *mut u8, plan_count: usize) -> u8;
         pub fn plan_words_of_columns(
             n: usize,
             g: usize,
-            columns: *const u8,
-            columns_count: usize,
+            plan: *const u8,
+            plan_count: usize,
             words: *mut u16,
             words_count: usize,
+        ) -> super::Signs;
+        pub fn plan_runs_of_columns(n: usize, g: usize, plan: *const u8, plan_count: usize, runs: *mut u16, runs_count: usize) -> u8;
+        pub fn plan_runs_of_words(
+            n: usize,
+            g: usize,
+            words: *const u16,
+            words_count: usize,
+            signs: u16,
+            runs: *mut u16,
+            runs_count: usize,
         ) -> u8;
-        pub fn plan_runs_of_columns(n: usize, g: usize, columns: *const u8, columns_count: usize, runs: *mut u16, runs_count: usize) -> u8;
-        pub fn plan_runs_of_words(n: usize, g: usize, words: *const u16, words_count: usize, runs: *mut u16, runs_count: usize) -> u8;
         pub fn plan_pattern_of_columns(
             n: usize,
             g: usize,
@@ -48,6 +59,7 @@ mod exported {
             g: usize,
             words: *const u16,
             words_count: usize,
+            signs: u16,
             pattern: *mut u16,
             pattern_count: usize,
         ) -> u8;
@@ -66,6 +78,7 @@ mod exported {
             g: usize,
             words: *const u16,
             words_count: usize,
+            signs: u16,
             resolution: *mut u8,
             resolution_count: usize,
         ) -> u8;
@@ -90,6 +103,7 @@ mod exported {
             g: usize,
             words: *const u16,
             words_count: usize,
+            signs: u16,
             counts: *mut u16,
             counts_count: usize,
         ) -> u8;
@@ -190,34 +204,42 @@ mod exported {
     }
 }
 
-/// The standard columns of the plan that the words generate: N places.
-pub fn plan_columns_of_words(n: usize, g: usize, words: &[u16], columns: &mut [u8]) -> u8 {
+/// The plan that the words and their signs generate, in standard columns: N + 2 places.
+pub fn plan_columns_of_words(n: usize, g: usize, words: &[u16], signs: u16, plan: &mut [u8]) -> u8 {
     // SAFETY: both lists are valid for the counts given with them, and the call keeps neither.
-    unsafe { exported::plan_columns_of_words(n, g, words.as_ptr(), words.len(), columns.as_mut_ptr(), columns.len()) }
+    unsafe { exported::plan_columns_of_words(n, g, words.as_ptr(), words.len(), signs, plan.as_mut_ptr(), plan.len()) }
 }
 
-/// The standard columns of a run table: N places.
-pub fn plan_columns_of_runs(n: usize, g: usize, runs: &[u16], columns: &mut [u8]) -> u8 {
+/// The plan of a run table, in standard columns: N + 2 places.
+pub fn plan_columns_of_runs(n: usize, g: usize, runs: &[u16], plan: &mut [u8]) -> u8 {
     // SAFETY: both lists are valid for the counts given with them, and the call keeps neither.
-    unsafe { exported::plan_columns_of_runs(n, g, runs.as_ptr(), runs.len(), columns.as_mut_ptr(), columns.len()) }
+    unsafe { exported::plan_columns_of_runs(n, g, runs.as_ptr(), runs.len(), plan.as_mut_ptr(), plan.len()) }
 }
 
-/// The reduced words of the columns' plan: G places.
-pub fn plan_words_of_columns(n: usize, g: usize, columns: &[u8], words: &mut [u16]) -> u8 {
-    // SAFETY: both lists are valid for the counts given with them, and the call keeps neither.
-    unsafe { exported::plan_words_of_columns(n, g, columns.as_ptr(), columns.len(), words.as_mut_ptr(), words.len()) }
+/// What is told of words: a refusal's number, 0 if accepted, and their signs, 0 if refused.
+#[repr(C)]
+#[derive(Clone, Copy, Debug, PartialEq, Eq)]
+pub struct Signs {
+    pub number: u8,
+    pub signs: u16,
 }
 
-/// The runs of the columns, run j at place j: 2^M places.
-pub fn plan_runs_of_columns(n: usize, g: usize, columns: &[u8], runs: &mut [u16]) -> u8 {
+/// The reduced words of a plan: G places.
+pub fn plan_words_of_columns(n: usize, g: usize, plan: &[u8], words: &mut [u16]) -> Signs {
     // SAFETY: both lists are valid for the counts given with them, and the call keeps neither.
-    unsafe { exported::plan_runs_of_columns(n, g, columns.as_ptr(), columns.len(), runs.as_mut_ptr(), runs.len()) }
+    unsafe { exported::plan_words_of_columns(n, g, plan.as_ptr(), plan.len(), words.as_mut_ptr(), words.len()) }
 }
 
-/// The runs of the words' standard columns, run j at place j: 2^M places.
-pub fn plan_runs_of_words(n: usize, g: usize, words: &[u16], runs: &mut [u16]) -> u8 {
+/// The runs of a plan, run j at place j: 2^M places.
+pub fn plan_runs_of_columns(n: usize, g: usize, plan: &[u8], runs: &mut [u16]) -> u8 {
     // SAFETY: both lists are valid for the counts given with them, and the call keeps neither.
-    unsafe { exported::plan_runs_of_words(n, g, words.as_ptr(), words.len(), runs.as_mut_ptr(), runs.len()) }
+    unsafe { exported::plan_runs_of_columns(n, g, plan.as_ptr(), plan.len(), runs.as_mut_ptr(), runs.len()) }
+}
+
+/// The runs of the plan that the words and their signs generate in standard columns, run j at place j: 2^M places.
+pub fn plan_runs_of_words(n: usize, g: usize, words: &[u16], signs: u16, runs: &mut [u16]) -> u8 {
+    // SAFETY: both lists are valid for the counts given with them, and the call keeps neither.
+    unsafe { exported::plan_runs_of_words(n, g, words.as_ptr(), words.len(), signs, runs.as_mut_ptr(), runs.len()) }
 }
 
 /// The pattern, lengths 1 to N: N places.
@@ -227,9 +249,9 @@ pub fn plan_pattern_of_columns(n: usize, g: usize, columns: &[u8], pattern: &mut
 }
 
 /// The pattern, lengths 1 to N: N places.
-pub fn plan_pattern_of_words(n: usize, g: usize, words: &[u16], pattern: &mut [u16]) -> u8 {
+pub fn plan_pattern_of_words(n: usize, g: usize, words: &[u16], signs: u16, pattern: &mut [u16]) -> u8 {
     // SAFETY: both lists are valid for the counts given with them, and the call keeps neither.
-    unsafe { exported::plan_pattern_of_words(n, g, words.as_ptr(), words.len(), pattern.as_mut_ptr(), pattern.len()) }
+    unsafe { exported::plan_pattern_of_words(n, g, words.as_ptr(), words.len(), signs, pattern.as_mut_ptr(), pattern.len()) }
 }
 
 /// The pattern, lengths 1 to N: N places.
@@ -245,9 +267,9 @@ pub fn plan_resolution_of_columns(n: usize, g: usize, columns: &[u8], resolution
 }
 
 /// The resolution: 1 place.
-pub fn plan_resolution_of_words(n: usize, g: usize, words: &[u16], resolution: &mut [u8]) -> u8 {
+pub fn plan_resolution_of_words(n: usize, g: usize, words: &[u16], signs: u16, resolution: &mut [u8]) -> u8 {
     // SAFETY: both lists are valid for the counts given with them, and the call keeps neither.
-    unsafe { exported::plan_resolution_of_words(n, g, words.as_ptr(), words.len(), resolution.as_mut_ptr(), resolution.len()) }
+    unsafe { exported::plan_resolution_of_words(n, g, words.as_ptr(), words.len(), signs, resolution.as_mut_ptr(), resolution.len()) }
 }
 
 /// The resolution: 1 place.
@@ -263,9 +285,9 @@ pub fn plan_distances_of_columns(n: usize, g: usize, columns: &[u8], counts: &mu
 }
 
 /// The distance counts from the first run, 0 to N: N + 1 places.
-pub fn plan_distances_of_words(n: usize, g: usize, words: &[u16], counts: &mut [u16]) -> u8 {
+pub fn plan_distances_of_words(n: usize, g: usize, words: &[u16], signs: u16, counts: &mut [u16]) -> u8 {
     // SAFETY: both lists are valid for the counts given with them, and the call keeps neither.
-    unsafe { exported::plan_distances_of_words(n, g, words.as_ptr(), words.len(), counts.as_mut_ptr(), counts.len()) }
+    unsafe { exported::plan_distances_of_words(n, g, words.as_ptr(), words.len(), signs, counts.as_mut_ptr(), counts.len()) }
 }
 
 /// The distance counts from the first run, 0 to N: N + 1 places.
@@ -286,7 +308,7 @@ pub fn plan_less_aberration(n: usize, g: usize, first: &[u16], second: &[u16]) -
     unsafe { exported::plan_less_aberration(n, g, first.as_ptr(), first.len(), second.as_ptr(), second.len()) }
 }
 
-/// Compares two plans given by columns: `PLAN_SAME`, and the witness's names in the first N places; `PLAN_DIFFERENT` and a length; or the
+/// Compares two plans in bytes: `PLAN_SAME` and the witness's mask, and its names in the first N places; `PLAN_DIFFERENT` and a length; or the
 /// refusal's number.
 pub fn plan_compare_columns(n: usize, g: usize, first: &[u8], second: &[u8], witness: &mut [u8]) -> u32 {
     let (count, places) = (first.len(), witness.len());
@@ -294,7 +316,7 @@ pub fn plan_compare_columns(n: usize, g: usize, first: &[u8], second: &[u8], wit
     unsafe { exported::plan_compare_columns(n, g, first.as_ptr(), count, second.as_ptr(), second.len(), witness.as_mut_ptr(), places) }
 }
 
-/// Compares two plans given by run tables. As `plan_compare_columns`, but with the witness's mask added to `PLAN_SAME`.
+/// Compares two plans given by run tables, as `plan_compare_columns` does.
 pub fn plan_compare_runs(n: usize, g: usize, first: &[u16], second: &[u16], witness: &mut [u8]) -> u32 {
     let (count, places) = (first.len(), witness.len());
     // SAFETY: the lists are valid for the counts given with them, and the call keeps none.
@@ -318,8 +340,8 @@ pub struct FormAnswer {
     pub place: usize,
 }
 
-/// The smallest form of the columns' plan, and a witness to it, for each factor of the given plan the factor of the smallest form that it
-/// becomes: N places each. The list that it is looked for in holds N columns a plan.
+/// The smallest form of a plan, in bytes, N + 2 places, and a witness to it, for each factor of the given plan the factor of the smallest form
+/// that it becomes, N places. The list that it is looked for in holds the bytes of plans.
 pub fn plan_smallest_of_columns(n: usize, g: usize, columns: &[u8], list: &[u8], smallest: &mut [u8], witness: &mut [u8]) -> FormAnswer {
     let (count, among, places, names) = (columns.len(), list.len(), smallest.len(), witness.len());
     let (smallest, witness) = (smallest.as_mut_ptr(), witness.as_mut_ptr());
@@ -327,7 +349,7 @@ pub fn plan_smallest_of_columns(n: usize, g: usize, columns: &[u8], list: &[u8],
     unsafe { exported::plan_smallest_of_columns(n, g, columns.as_ptr(), count, list.as_ptr(), among, smallest, places, witness, names) }
 }
 
-/// The same of the plan of a run table: the witness's mask is switched after its renaming.
+/// The same of the plan of a run table.
 pub fn plan_smallest_of_runs(n: usize, g: usize, runs: &[u16], list: &[u8], smallest: &mut [u8], witness: &mut [u8]) -> FormAnswer {
     let (count, among, places, names) = (runs.len(), list.len(), smallest.len(), witness.len());
     let (smallest, witness) = (smallest.as_mut_ptr(), witness.as_mut_ptr());
@@ -335,7 +357,8 @@ pub fn plan_smallest_of_runs(n: usize, g: usize, runs: &[u16], list: &[u8], smal
     unsafe { exported::plan_smallest_of_runs(n, g, runs.as_ptr(), count, list.as_ptr(), among, smallest, places, witness, names) }
 }
 
-/// The smallest forms of several plans, N columns each, one after another, and a witness to each: as many places as the plans have.
+/// The smallest forms of several plans in bytes, one after another, and a witness to each, its names and its mask in two bytes: as many places
+/// as the plans have.
 pub fn plan_smallest_of_plans(n: usize, g: usize, plans: &[u8], forms: &mut [u8], witnesses: &mut [u8]) -> u8 {
     let (count, places, names) = (plans.len(), forms.len(), witnesses.len());
     // SAFETY: the lists are valid for the counts given with them, they do not overlap, and the call keeps none.
@@ -350,7 +373,7 @@ pub struct Entries {
     pub count: usize,
 }
 
-/// The catalogue, its entries one after another, N columns each, as many as the list has room for. Refused by 9 where it has more.
+/// The catalogue, its entries in bytes one after another, as many as the list has room for. Refused by 9 where it has more.
 pub fn plan_catalogue(n: usize, g: usize, r: usize, columns: &mut [u8]) -> Entries {
     // SAFETY: the list is valid for the count given with it, and the call does not keep it.
     unsafe { exported::plan_catalogue(n, g, r, columns.as_mut_ptr(), columns.len()) }
@@ -364,7 +387,7 @@ pub struct Bytes {
     pub count: usize,
 }
 
-/// The book of several plans, their columns one plan after another.
+/// The book of several plans in bytes, one after another, their masks 0.
 pub fn plan_write_book(n: usize, g: usize, r: usize, plans: &[u8], book: &mut [u8]) -> Bytes {
     let (count, places) = (plans.len(), book.len());
     // SAFETY: the lists are valid for the counts given with them, they do not overlap, and the call keeps none.
@@ -382,7 +405,7 @@ pub struct Book {
     pub count: usize,
 }
 
-/// Reads a book of smallest forms: its entries one after another, N columns each.
+/// Reads a book of smallest forms: its entries in bytes, one after another.
 pub fn plan_read_book(book: &[u8], columns: &mut [u8]) -> Book {
     // SAFETY: both lists are valid for the counts given with them, they do not overlap, and the call keeps neither.
     unsafe { exported::plan_read_book(book.as_ptr(), book.len(), columns.as_mut_ptr(), columns.len()) }

@@ -2,8 +2,8 @@
 
 use super::bits::letters;
 use super::measures::pattern;
-use super::plan::{Form, Plan};
-use super::refusals::{accepted, of_sizes};
+use super::plan::{columns_and_mask, stride, Given, Plan};
+use super::refusals::{accepted_bytes, of_sizes};
 
 /// The most plans that a book can have.
 pub const MOST_PLANS: usize = 65_535;
@@ -21,7 +21,7 @@ pub fn header(n: usize, g: usize, r: usize, count: usize) -> Vec<u8> {
 
 /// An entry: the record of kind 0x20 + N, the columns, and that of kind 0x40 + N, the counts for lengths 3 to N.
 pub fn entry(n: usize, g: usize, columns: &[u32]) -> Vec<u8> {
-    let counts = pattern(n, &Plan::new(n, g, Form::Columns, columns).words);
+    let counts = pattern(n, &Plan::new(&Given::columns(n, g, columns, 0)).words);
     let mut bytes = vec![0x20 + n as u8];
     bytes.extend(columns.iter().map(|&column| column as u8));
     bytes.push(0x40 + n as u8);
@@ -40,9 +40,10 @@ pub fn book(n: usize, g: usize, r: usize, plans: &[Vec<u32>]) -> Vec<u8> {
     bytes
 }
 
-/// The number under which one plan is refused where words of r letters are wanted, 0 if it is not.
-fn of_plan(n: usize, g: usize, r: usize, columns: &[u32]) -> u8 {
-    match accepted(n, g, Form::Columns, columns) {
+/// The number under which one plan in bytes is refused where words of r letters are wanted, 0 if it is not. A mask other than 0 is 5.
+fn of_plan(n: usize, g: usize, r: usize, bytes: &[u32]) -> u8 {
+    match accepted_bytes(n, g, bytes) {
+        _ if columns_and_mask(n, bytes).1 != 0 => 5,
         Err(number) => number,
         Ok(plan) if plan.words.iter().any(|&word| letters(word) < r) => 7,
         Ok(_) => 0,
@@ -58,15 +59,16 @@ pub fn refusal(n: usize, g: usize, r: usize, plans: &[u8], places: usize) -> u8 
     if !(3..=16).contains(&r) {
         return 3;
     }
-    if plans.len() % n != 0 || plans.len() / n > MOST_PLANS {
+    let each = stride(n);
+    if plans.len() % each != 0 || plans.len() / each > MOST_PLANS {
         return 4;
     }
-    let numbers = plans.chunks(n).map(|plan| of_plan(n, g, r, &plan.iter().map(|&column| column.into()).collect::<Vec<u32>>()));
+    let numbers = plans.chunks(each).map(|plan| of_plan(n, g, r, &plan.iter().map(|&byte| byte.into()).collect::<Vec<u32>>()));
     if let Some(lowest) = numbers.filter(|&number| number != 0).min() {
         return lowest;
     }
     let counts = if n < 3 { 0 } else { 2 * (n - 2) };
-    if places < 6 + plans.len() / n * (1 + n + 1 + counts) {
+    if places < 6 + plans.len() / each * (1 + n + 1 + counts) {
         return 8;
     }
     0

@@ -1,4 +1,4 @@
-//! Rank of columns, and the standard columns of a plan.
+//! Rank of columns, the factors that they let be switched, and the standard columns of a plan.
 
 use super::bits::{has, last_letter};
 use super::words::is_last_letter;
@@ -16,6 +16,20 @@ pub fn rank_is(m: usize, columns: &[u32]) -> bool {
         }
     }
     reached.iter().all(|&r| r)
+}
+
+/// The factors whose column is an exclusive-or of columns before it, which are the last letters of words. The columns may have any rank.
+pub fn last_letters(columns: &[u32]) -> u32 {
+    let mut span = vec![0];
+    let mut factors = 0;
+    for (f, &column) in columns.iter().enumerate() {
+        if span.contains(&column) {
+            factors |= 1 << f;
+        } else {
+            span.extend(span.clone().iter().map(|sum| sum ^ column));
+        }
+    }
+    factors
 }
 
 /// The exclusive-or of the columns of a set of factors.

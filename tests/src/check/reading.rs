@@ -2,7 +2,7 @@
 
 use super::bits::letters;
 use super::measures::pattern;
-use super::plan::Form;
+use super::plan::{stride, Given};
 use super::refusals::{accepted, of_sizes};
 use super::smallest::smallest;
 
@@ -22,9 +22,9 @@ pub struct Judged {
 }
 
 impl Judged {
-    /// How many places of a list the count of the header takes, 0 if the header is refused.
+    /// How many places of a list the count of the header takes, N columns and a mask of two bytes an entry, 0 if the header is refused.
     pub fn places(&self) -> usize {
-        self.header.map_or(0, |header| header.count * header.n)
+        self.header.map_or(0, |header| header.count * stride(header.n))
     }
 
     /// What is read into a list of this many places, or the number of the first check that fails.
@@ -65,7 +65,7 @@ fn header(book: &[u8]) -> Result<(Header, &[u8]), u8> {
 /// The counts for lengths 3 to N of a plan; none if its columns are no smallest form of N and G whose words all have at least R letters.
 fn counts(header: Header, columns: &[u32]) -> Option<Vec<u32>> {
     let Header { n, g, r, .. } = header;
-    let plan = accepted(n, g, Form::Columns, columns).ok()?;
+    let plan = accepted(&Given::columns(n, g, columns, 0)).ok()?;
     let long = plan.words.iter().all(|&word| letters(word) >= r);
     (long && smallest(n - g, columns) == columns).then(|| pattern(n, &plan.words).into_iter().skip(2).collect())
 }

@@ -1,6 +1,6 @@
-//! Run tables: the runs of columns, the plan that words generate, and when a table is regular.
+//! Run tables: the runs of columns and a mask, the plan that words with signs generate, and when a table is regular.
 
-use super::bits::odd;
+use super::bits::{has, odd};
 
 /// Whether no run stands twice in the table.
 pub fn different(table: &[u32]) -> bool {
@@ -32,7 +32,13 @@ pub fn runs_of_columns(m: usize, columns: &[u32]) -> Vec<u32> {
     (0..1 << m).map(|j| run_of_columns(columns, j)).collect()
 }
 
-/// The plan that words generate: every run of n factors that meets each word in an even number of low levels.
-pub fn plan_of_words(n: usize, words: &[u32]) -> Vec<u32> {
-    (0..1 << n).filter(|&run| words.iter().all(|&word| !odd(run, word))).collect()
+/// The same with the factors of a mask switched.
+pub fn switched_runs(m: usize, columns: &[u32], mask: u32) -> Vec<u32> {
+    runs_of_columns(m, columns).iter().map(|run| run ^ mask).collect()
+}
+
+/// The plan that words with signs generate: every run of n factors that meets word i in an odd number of low levels exactly if bit i of the
+/// signs is 1.
+pub fn plan_of_words(n: usize, words: &[u32], signs: u32) -> Vec<u32> {
+    (0..1 << n).filter(|&run| words.iter().enumerate().all(|(i, &word)| odd(run, word) == has(signs, i))).collect()
 }

@@ -1,7 +1,7 @@
 //! The library against the graph method of document 002, and beside the times that documents 000 and 002 print.
 
 use crate::graphs::grow;
-use crate::library::{catalogue, measure_once, Size};
+use crate::library::{catalogue, measure_once, stride, Size};
 use crate::timing::{time, PASSES};
 
 /// A first run that takes longer, in seconds, is not repeated.
@@ -40,7 +40,7 @@ fn measure_both(size: Size, length: usize) -> (f64, f64, usize) {
     let mut list = vec![0; length];
     let mut library = measure_once(size, &mut list);
     let (found, mut graphs) = time(|| grow(n, n - g, r));
-    assert_eq!(found.plans, length / n, "the graph method finds another number of plans for {n} {g} {r}");
+    assert_eq!(found.plans, length / stride(n), "the graph method finds another number of plans for {n} {g} {r}");
     let mut passes = 1;
     while passes < PASSES && graphs < LONG {
         library = library.min(measure_once(size, &mut list));
@@ -62,7 +62,7 @@ pub fn print() {
         let [gba, basic, pa, eca] = printed(size);
         println!(
             "| {n} | {g} | {r} | {} | {library:.5} | {labelled} | {graphs:.5} | {ratio:.3} | {gba} | {basic} | {pa} | {eca} |",
-            length / n
+            length / stride(n)
         );
         if n >= AHEAD_FROM && ratio >= 1.0 {
             behind.push(format!("{n} {g} {r}"));

@@ -1,6 +1,6 @@
 //! Every line that the program `plans` takes: the exported function with room for as many entries as the program lends.
 
-use crate::library::{fill, sizes, Size};
+use crate::library::{fill, sizes, stride, Size};
 use crate::timing::{fastest, time};
 
 /// The entries that the program lends.
@@ -14,8 +14,8 @@ fn lines() -> impl Iterator<Item = Size> {
 }
 
 pub fn print() {
-    let mut list = vec![0; 16 * ROOM];
-    let mut call = |size: Size| fill(size, &mut list[..ROOM * size.0]);
+    let mut list = vec![0; stride(16) * ROOM];
+    let mut call = |size: Size| fill(size, &mut list[..ROOM * stride(size.0)]);
     let mut times: Vec<(Size, f64)> = lines().map(|size| (size, time(|| call(size)).1)).collect();
     let all = times.iter().map(|line| line.1).sum::<f64>();
     times.sort_by(|one, other| other.1.total_cmp(&one.1));

@@ -1,6 +1,6 @@
 //! How the library's time grows with the entries.
 
-use crate::library::{catalogue, fill, measure, Size};
+use crate::library::{catalogue, fill, measure, stride, Size};
 use crate::timing::time;
 
 fn sizes() -> impl Iterator<Item = Size> {
@@ -21,10 +21,10 @@ pub fn print(long: bool) {
     println!("|---|---|---|---|---|---|");
     for size in sizes() {
         let length = catalogue(size).len();
-        print_row(size, length / size.0, measure(size, length));
+        print_row(size, length / stride(size.0), measure(size, length));
     }
     for (size, most) in LONG.into_iter().filter(|_| long) {
-        let mut list = vec![0; most * size.0];
+        let mut list = vec![0; most * stride(size.0)];
         let (count, seconds) = time(|| fill(size, &mut list));
         print_row(size, count.expect("room for all"), seconds);
     }

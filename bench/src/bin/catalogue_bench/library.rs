@@ -6,6 +6,11 @@ use planner::plan_catalogue;
 /// N, G and R.
 pub type Size = (usize, usize, usize);
 
+/// How many bytes a plan of n factors has.
+pub fn stride(n: usize) -> usize {
+    n + 2
+}
+
 /// Every N and G in bounds.
 pub fn sizes() -> impl Iterator<Item = (usize, usize)> {
     (1..=16).flat_map(|n| (0..n).map(move |g| (n, g))).filter(|(n, g)| n - g <= 7)
@@ -21,13 +26,13 @@ pub fn fill((n, g, r): Size, list: &mut [u8]) -> Option<usize> {
     (entries.number == 0).then_some(entries.count)
 }
 
-/// The catalogue, n columns an entry.
+/// The catalogue, its entries in bytes, one after another.
 pub fn catalogue(size: Size) -> Vec<u8> {
     let mut room = 1 << 10;
     loop {
-        let mut list = vec![0; room * size.0];
+        let mut list = vec![0; room * stride(size.0)];
         if let Some(count) = fill(size, &mut list) {
-            list.truncate(count * size.0);
+            list.truncate(count * stride(size.0));
             return list;
         }
         room *= 4;
@@ -36,7 +41,7 @@ pub fn catalogue(size: Size) -> Vec<u8> {
 
 /// The time of one call.
 pub fn measure_once(size: Size, list: &mut [u8]) -> f64 {
-    let entries = list.len() / size.0;
+    let entries = list.len() / stride(size.0);
     let (found, seconds) = time(|| fill(size, list));
     assert_eq!(found, Some(entries));
     seconds
@@ -45,5 +50,5 @@ pub fn measure_once(size: Size, list: &mut [u8]) -> f64 {
 /// The time that the exported function takes for a catalogue into a list of just its length.
 pub fn measure(size: Size, length: usize) -> f64 {
     let mut list = vec![0; length];
-    fastest(|| assert_eq!(fill(size, &mut list), Some(length / size.0)))
+    fastest(|| assert_eq!(fill(size, &mut list), Some(length / stride(size.0))))
 }

@@ -1,6 +1,6 @@
 //! Books read, against the catalogues that make their entries.
 
-use crate::library::{catalogue, fill, sizes, Size};
+use crate::library::{catalogue, fill, sizes, stride, Size};
 use crate::timing::{fastest, time, PASSES};
 use planner::{plan_read_book, plan_write_book};
 
@@ -31,7 +31,7 @@ const WHOLE: [Size; 17] = [
 
 /// The book of these entries.
 fn written((n, g, r): Size, entries: &[u8]) -> Vec<u8> {
-    let mut book = vec![0; 6 + entries.len() / n * 3 * n.max(2)];
+    let mut book = vec![0; 6 + entries.len() / stride(n) * 3 * n.max(2)];
     let bytes = plan_write_book(n, g, r, entries, &mut book);
     assert_eq!(bytes.number, 0, "the entries are accepted");
     book.truncate(bytes.count);
@@ -50,25 +50,25 @@ fn print_row(size: Size, entries: &[u8]) {
     let (n, g, r) = size;
     let book = written(size, entries);
     let mut list = vec![0; entries.len()];
-    assert_eq!(read(&book, &mut list), entries.len() / n);
+    assert_eq!(read(&book, &mut list), entries.len() / stride(n));
     assert!(list == entries, "the book of {n} {g} {r} has other entries");
     let (mut made, mut reading) = (f64::INFINITY, f64::INFINITY);
     for _ in 0..PASSES {
         made = made.min(time(|| fill(size, &mut list)).1);
         reading = reading.min(time(|| read(&book, &mut list)).1);
     }
-    let count = entries.len() / n;
+    let count = entries.len() / stride(n);
     println!("| {n} | {g} | {r} | {count} | {} | {:.3} | {:.3} | {:.2} |", book.len(), made * 1e3, reading * 1e3, reading / made);
 }
 
 /// How long each entry takes in a book of its own.
 fn alone(size: Size, entries: &[u8]) -> Vec<f64> {
-    let mut list = vec![0; size.0];
+    let mut list = vec![0; stride(size.0)];
     let one = |entry: &[u8]| {
         let book = written(size, entry);
         fastest(|| assert_eq!(read(&book, &mut list), 1))
     };
-    entries.chunks(size.0).map(one).collect()
+    entries.chunks(stride(size.0)).map(one).collect()
 }
 
 /// The entry that takes longest, of all sizes.
@@ -76,10 +76,10 @@ fn print_slowest_entry() {
     let (mut count, mut slowest) = (0, (0.0, String::new()));
     for (n, g) in sizes() {
         let entries = catalogue((n, g, 3));
-        for (seconds, entry) in alone((n, g, 3), &entries).into_iter().zip(entries.chunks(n)) {
+        for (seconds, entry) in alone((n, g, 3), &entries).into_iter().zip(entries.chunks(stride(n))) {
             count += 1;
             if seconds > slowest.0 {
-                slowest = (seconds, format!("N {n}, G {g}, columns {entry:?}"));
+                slowest = (seconds, format!("N {n}, G {g}, columns {:?}", &entry[..n]));
             }
         }
     }
@@ -95,7 +95,7 @@ fn print_slowest_book(first: &mut [u8]) {
     places.sort_by(|&one, &other| times[other].total_cmp(&times[one]));
     places.truncate(MOST);
     places.sort();
-    let slow: Vec<u8> = places.iter().flat_map(|&i| &entries[i * LARGEST.0..(i + 1) * LARGEST.0]).copied().collect();
+    let slow: Vec<u8> = places.iter().flat_map(|&i| &entries[i * stride(LARGEST.0)..(i + 1) * stride(LARGEST.0)]).copied().collect();
     let book = written(LARGEST, &slow);
     let mut list = vec![0; slow.len()];
     let reading = fastest(|| assert_eq!(read(&book, &mut list), MOST));
@@ -113,7 +113,7 @@ fn print_slowest_book(first: &mut [u8]) {
 pub fn print() {
     println!("| N | G | R | entries | bytes | catalogue, ms | reading, ms | reading / catalogue |");
     println!("|---|---|---|---|---|---|---|---|");
-    let mut first = vec![0; MOST * LARGEST.0];
+    let mut first = vec![0; MOST * stride(LARGEST.0)];
     assert_eq!(fill(LARGEST, &mut first), None, "more entries than a book has");
     print_row(LARGEST, &first);
     WHOLE.iter().for_each(|&size| print_row(size, &catalogue(size)));

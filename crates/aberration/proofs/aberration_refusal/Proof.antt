@@ -19,7 +19,7 @@ returns c =
     let a = c .before .before .before .before .before .args in
     let p = c .before .before .admit-words in
     let q = c .before .admit-words2 in
-    lowest-lower (wordsFaults (a .n) (a .g) (a .first .now)) (wordsFaults (a .n) (a .g) (a .second .now)) (p .result .number) (q .result .number)
+    lowest-lower (wordsFaults (a .n) (a .g) (a .first .now) 0) (wordsFaults (a .n) (a .g) (a .second .now) 0) (p .result .number) (q .result .number)
     (c .lower-of .result) (p .ensures .lowest) (q .ensures .lowest) (c .lower-of .ensures)
 
 pub aberration-refusal-spec : {M : Type 1} → statement M

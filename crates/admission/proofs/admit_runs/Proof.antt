@@ -1,6 +1,6 @@
 -- `admission::admit_runs` meets its contract: 1, 2 and 4 to 7 are met in this order. Assumes nothing.
 use native.Mathlib.Omega.{arith}
-use mathlib.Core.Path.{_≡_, sym, _∙_}
+use mathlib.Core.Path.{_≡_, refl, sym, _∙_}
 use mathlib.Core.List.{List}
 use borrow.Author.Needs.{needs}
 use Rattle.admission.proofs.admit_runs.Statement.{statement}
@@ -184,7 +184,7 @@ returns-6 c =
     (table-0 (s .args .n) (s .args .n - s .args .g) (runs s) (counted o) (low u) (d .ensures .possible (not-false _ (v .if4 .left)))
     (no-short-switched (s .args .n) (getD (runs s) 0 0) (runsOf (runs s)) 3
     (distinct-long (s .args .n) (s .args .n - s .args .g) (plan s) (d .result .columns) (standard v) pl)))
-    (λ x e. e) (low u (getD (runs s) 0 0) (place-in (runs s) 0 (some o))) (standard v) pl (d .ensures .unused)
+    (λ x e. e) refl (low u (getD (runs s) 0 0) (place-in (runs s) 0 (some o))) (standard v) pl (d .ensures .unused)
 
 pub admit-runs-spec : {M : Type 1} → statement M
 admit-runs-spec =

@@ -1,11 +1,13 @@
 -- `book::add` meets its contract: a refusal is passed on, else the record's entry is put after the others. Assumes nothing.
-use Prim.Native.Nat.{_+_, _≤_}
+use Prim.Native.Nat.{_+_, _-_, _≤_}
 use mathlib.Core.Path.{refl}
 use native.Mathlib.Omega.{arith}
 use borrow.Author.Needs.{needs}
 use lib.ListN.{length}
+use Rattle.regular.specs.Columns.{planOf}
 use Rattle.regular.specs.Refusals.{Lowest, designFaults}
 use Rattle.regular.specs.Book.{entryLength}
+use Rattle.words.specs.Switches.{pattern-switched}
 use Rattle.book.specs.PlanLaws.{admitted-ready, entry-of}
 use Rattle.book.proofs.add.Statement.{statement}
 use Rattle.book.proofs.add.Tie as tie
@@ -38,9 +40,14 @@ returns-2 : tie.Need-returns-2
 returns-2 c =
     let p = c .before .before in
     let d = p .before .before .before .before in
+    let a = start (d .before) .args in
+    let plan = planOf (a .n) (a .n - a .g) (a .design .columns) in
     record {
       refused = λ h. absurd (omega (arith, d .before .if1 .left));
-      added = λ _. (refl, entry-of (fits (d .before) .0) (d .admit-design .ensures) refl (p .put-plan .ensures));
+      added = λ _. (
+        refl,
+        entry-of (fits (d .before) .0) (d .admit-design .ensures) plan (pattern-switched (a .n) (a .design .mask) plan) refl (p .put-plan .ensures),
+      );
     }
 
 pub add-spec : {M : Type 1} → statement M

@@ -3,7 +3,7 @@ use Prim.Native.Nat.{_/_, _%_}
 use native.Mathlib.Omega.{arith}
 use borrow.Author.Needs.{needs}
 use lib.ListN.{length-set}
-use Rattle.regular.specs.Book.{byteValues}
+use Rattle.regular.specs.PlanBytes.{byteValues}
 use Rattle.book.specs.PutLaws.{number-put}
 use Rattle.book.proofs.put_number.Statement.{statement}
 use Rattle.book.proofs.put_number.Tie as tie

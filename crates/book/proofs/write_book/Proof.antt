@@ -1,4 +1,5 @@
 -- `book::write_book` meets its contract: all is judged, the header is begun, then the entries follow. Assumes nothing.
+use mathlib.Core.Bool.{true}
 use mathlib.Core.Path.{_≡_, subst}
 use mathlib.Core.List.{List}
 use Prim.Native.Nat.{ℕ, _≤_}
@@ -23,7 +24,7 @@ module _ (c : tie.After-begin) where
   abbrev number : ℕ
   number = c .before .before .before .plans-refusal .result
 
-  lowest : Lowest (wantedPlansFaults (start .args .n) (start .args .g) (start .args .r) (start .args .plans .now)) number
+  lowest : Lowest (wantedPlansFaults (start .args .n) (start .args .g) (start .args .r) true (start .args .plans .now)) number
   lowest = c .before .before .before .plans-refusal .ensures
 
   abbrev bytes : List ℕ
@@ -44,7 +45,7 @@ module _ (c : tie.After-begin) where
         let a = start .args in
         let z = refusal-none (a .n) (planCount (a .n) (length (a .plans .now))) number (length (a .out .now)) (c .begin .result .number) e
         (opened .refusal) .plans in
-        plans-accepted (a .n) (a .g) (a .r) (a .plans .now) (subst (Lowest (wantedPlansFaults (a .n) (a .g) (a .r) (a .plans .now))) z lowest)
+        plans-accepted (a .n) (a .g) (a .r) (a .plans .now) (subst (Lowest (wantedPlansFaults (a .n) (a .g) (a .r) true (a .plans .now))) z lowest)
 
     room : bookLength (start .args .n) (planCount (start .args .n) (length (start .args .plans .now))) ≤ length bytes
     room = begun-room opened e
@@ -68,7 +69,7 @@ returns : tie.Need-returns
 returns c =
     let b = c .before .before .before .before in
     let a = start b .args in
-    writes-refused (plans-most (a .n) (a .g) (a .r) (a .plans .now)) (lowest b) (opened b) (c .if1 .taken)
+    writes-refused (plans-most (a .n) (a .g) (a .r) true (a .plans .now)) (lowest b) (opened b) (c .if1 .taken)
 
 put-plans-requires : tie.Need-put-plans-requires
 put-plans-requires c κs =
@@ -87,7 +88,7 @@ returns-2 c =
     let b = z .before .before .before .before in
     let e = z .if1 .left in
     let a = start b .args in
-    writes-book (plans-most (a .n) (a .g) (a .r) (a .plans .now)) (lowest b) (opened b) e (q .put-plans .ensures)
+    writes-book (plans-most (a .n) (a .g) (a .r) true (a .plans .now)) (lowest b) (opened b) e (q .put-plans .ensures)
 
 pub write-book-spec : {M : Type 1} → statement M
 write-book-spec =

@@ -30,7 +30,7 @@ use types.Tokens.{lft-new, lft-end}
 use types.SemTy.{cells, Arr}
 use types.Run.{look, look-raw, init, store, forget, stop, hop, fld, from, load, lit, addr, of-opd, bin, assigns, assigns-last, land, and-then}
 use types.Run.{no-more, first, blocks, stays, leaves-loop, returns, enter, alloc1, alloc0, params1, pass1, pass0, free1, free0, exec, Below, again}
-use types.Run.{loops}
+use types.Run.{loops, true-lit}
 use types.Part.{whole, sub, look-in, agg}
 use types.Share.{arr-parts}
 use sound.WpLaws.{fmOf, WpFn-mono}
@@ -38,8 +38,8 @@ use denote.RattleType.{owns}
 use denote.Shadow.{pureI}
 use denote.Laws.{Is, shows}
 use denote.Memory.{pointee, mem, shares}
-use denote.Plain.{uint-makes, uint-lawful, uint-vals, uint-tells}
-use denote.Builtin.{u8, usize}
+use denote.Plain.{uint-makes, uint-lawful, uint-vals, uint-tells, bool-makes}
+use denote.Builtin.{u8, usize, bool}
 use denote.Ref.{RefT}
 use denote.Slice.{sliceTy, sliceVal, ShrSlice, MutSlice, Room, heres, codedHoleys, at-slice, slice-vals, shr-slice-tells, shr-slice-copy, mut-slice-tells}
 use denote.Lend.{Held, lends-slice, slice-back}
@@ -228,11 +228,21 @@ module _ {M : Type 1} (𝓤 : URA M) (H : Heap 𝓤) (A : Atoms 𝓤) (W : Given
     fits i l = lt-of-le-of-lt l (room .0)
 
     abbrev to-ref : Ref 𝓤 H A mem′ run .Ghost
-    to-ref = (((κ₁, tt), (q₁, tt), tt, (w, (g, (r, (x, tt)))), (vint w64 w ∷ [], (vint w64 g ∷ [], (vint w64 r ∷ [], (s ∷ [], tt))))), tt)
+    to-ref = (
+      (
+        (κ₁, tt),
+        (q₁, tt),
+        tt,
+        (w, (g, (r, (true, (x, tt))))),
+        (vint w64 w ∷ [], (vint w64 g ∷ [], (vint w64 r ∷ [], (vbool true ∷ [], (s ∷ [], tt))))),
+      ),
+      tt,
+    )
 
     goes-ref : ent 𝓤 (sep 𝓤 (A .lft κ₁ q₁) (sem 𝓤 H A Own)) (Ref 𝓤 H A mem′ run .pre to-ref)
     goes-ref =
         qed W (‵ (flft κ₁ q₁) ∷ ‵ Own ∷ []) ∵ nothing ! $ move ! (2 ∷ 0 ∷ []) $ fjoin ! $
+        owned ! bool (Is bool) (bool-makes 𝓤 H A W) true _ refl $ fjoin ! $
         owned ! usize (Is usize) (uint-makes 𝓤 H A W w64) r _ (refl, r-fits) $ fjoin ! $
         owned ! usize (Is usize) (uint-makes 𝓤 H A W w64) g _ (refl, g-fits) $ fjoin ! $
         owned ! usize (Is usize) (uint-makes 𝓤 H A W w64) w _ (refl, w-fits) $ fjoin ! $ nothing ! $ move ! (2 ∷ 0 ∷ []) $ join ! $ join ! $ frame ! $ done !
@@ -448,7 +458,7 @@ module _ {M : Type 1} (𝓤 : URA M) (H : Heap 𝓤) (A : Atoms 𝓤) (W : Given
           ∷ ‵ (froom R′.mir l₇ 0) ∷ ‵ (fdies R′.mir l₇) ∷ ‵ (fat fullShare byte l₆ 0 (vint w8 number)) ∷ ‵ (fdies byte l₆)
           ∷ Lasting l₀ l₁ l₂ l₃ l₄ l₅ []))
 
-      heads : (number : ℕ) → number < 2 ^ 8 → Lowest (wantedRecordsFaults w g r ys) number → Leads (Judged number) m.t-2 Post
+      heads : (number : ℕ) → number < 2 ^ 8 → Lowest (wantedRecordsFaults w g r true ys) number → Leads (Judged number) m.t-2 Post
       heads number number-fits low =
           qed W (Judged number) ∵ exec ! (𝓣 .C) (𝓣 .Λ) E m.t-2 (atRet E Post) $
           assigns ! (of-opd ! (load ! (from ! (fld ! refl (stop !))) (look-in ! 35 (sub ! 1 refl (whole !))))) (from ! (stop !))
@@ -509,11 +519,12 @@ module _ {M : Type 1} (𝓤 : URA M) (H : Heap 𝓤) (A : Atoms 𝓤) (W : Given
           calls-at ! (fmOf 𝓤 H (W .laws) 𝓣) (Ref 𝓤 H A mem′ run) judged to-ref
           (and-then ! (load ! (from ! (stop !)) (look ! 41 refl))
           (and-then ! (load ! (from ! (stop !)) (look ! 39 refl))
-          (and-then ! (load ! (from ! (stop !)) (look ! 37 refl)) (and-then ! (load ! (from ! (stop !)) (look ! 35 refl)) (no-more !))))) (λ v.
+          (and-then ! (load ! (from ! (stop !)) (look ! 37 refl))
+          (and-then ! (true-lit !) (and-then ! (load ! (from ! (stop !)) (look ! 35 refl)) (no-more !)))))) (λ v.
           use1 W (later (some (λ (u : ℕ). ((‵ (flft κ₁ q₁) ⊛ ‵ ftrue) ⊛ ‵ (u8 .own u (v ∷ [])))
-          ⊛ some (λ (ws : Lasts ref-fn.ended (κ₁, tt) (w, (g, (r, (x, tt))))). ‵ (lasts ref-fn.ended (κ₁, tt) (w, (g, (r, (x, tt)))) ws)
-          ⊛ raw (fact 𝓤 (Lowest (wantedRecordsFaults w g r ys) u)))))) (id⊢ 𝓤 _) $ await ! tt $ pick ! (λ u.
-          split ! $ move ! (1 ∷ []) $ pick ! (λ ws. split ! $ move ! (1 ∷ []) $ heard ! (Lowest (wantedRecordsFaults w g r ys) u) (λ low. drop ! $
+          ⊛ some (λ (ws : Lasts ref-fn.ended (κ₁, tt) (w, (g, (r, (true, (x, tt)))))). ‵ (lasts ref-fn.ended (κ₁, tt) (w, (g, (r, (true, (x, tt))))) ws)
+          ⊛ raw (fact 𝓤 (Lowest (wantedRecordsFaults w g r true ys) u)))))) (id⊢ 𝓤 _) $ await ! tt $ pick ! (λ u.
+          split ! $ move ! (1 ∷ []) $ pick ! (λ ws. split ! $ move ! (1 ∷ []) $ heard ! (Lowest (wantedRecordsFaults w g r true ys) u) (λ low. drop ! $
           split ! $ split ! $ move ! (2 ∷ []) $ facts ! u8 (Is u8) (shows 𝓤 H A u8) u (v ∷ []) (λ is-u. move ! (1 ∷ []) $ drop ! $
           land ! (from ! (stop !)) (init ! 31 refl (uint-lawful 𝓤 H A W w8 .typed u _ is-u .0)) $
           rewrite ! 31 (λ (z : Val). ‵ (fat fullShare byte l₆ 0 z)) (ap only (is-u .0)) refl $

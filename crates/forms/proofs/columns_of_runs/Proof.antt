@@ -1,12 +1,8 @@
 -- `forms::columns_of_runs` meets its contract: the admitted plan is the table's. Assumes nothing.
 use borrow.Author.Needs.{needs}
-use mathlib.Core.Path.{refl}
-use Rattle.admission.specs.Admission.{standard-from}
 use Rattle.forms.proofs.columns_of_runs.Statement.{statement}
 use Rattle.forms.proofs.columns_of_runs.Tie as tie
 use Rattle.forms.specs.Made.{columns-fills}
-use Rattle.regular.specs.Runs.{switched, runsOf}
-use lib.ListN.{getD}
 
 -- from the admitted plan back to the start
 abbrev start : tie.After-admit-runs → tie.Start
@@ -24,11 +20,8 @@ same-length c = search needs
 returns : tie.Need-returns
 returns c =
     let o = c .before .before .before .before in
-    let a = start o .args in
-    let q = o .admit-runs in
     let l = c .before .before .lend-columns in
-    columns-fills (q .ensures) (switched (getD (a .runs .now) 0 0) (runsOf (a .runs .now))) (standard-from (q .ensures) (getD (a .runs .now) 0 0) refl)
-    (a .out .now) (l .last .1 .1 .0) (l .result) (l .ensures)
+    columns-fills (o .admit-runs .ensures) (start o .args .out .now) (l .last .1 .1 .0) (l .result) (l .ensures)
 
 pub columns-of-runs-spec : {M : Type 1} → statement M
 columns-of-runs-spec =

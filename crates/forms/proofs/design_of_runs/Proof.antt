@@ -1,12 +1,8 @@
 -- `forms::design_of_runs` meets its contract: the admitted plan is the table's. Assumes nothing.
 use borrow.Author.Needs.{needs}
-use mathlib.Core.Path.{refl}
-use Rattle.admission.specs.Admission.{standard-from}
 use Rattle.forms.proofs.design_of_runs.Statement.{statement}
 use Rattle.forms.proofs.design_of_runs.Tie as tie
 use Rattle.forms.specs.Made.{design-gives}
-use Rattle.regular.specs.Runs.{switched, runsOf}
-use lib.ListN.{getD}
 
 admit-runs-requires : tie.Need-admit-runs-requires
 admit-runs-requires c κs = search needs
@@ -16,11 +12,8 @@ design-of-requires c κs = search needs
 
 returns : tie.Need-returns
 returns c =
-    let a = c .before .before .before .args in
-    let q = c .before .admit-runs in
     let l = c .design-of in
-    design-gives (q .ensures) (switched (getD (a .runs .now) 0 0) (runsOf (a .runs .now))) (standard-from (q .ensures) (getD (a .runs .now) 0 0) refl)
-    (l .result .number) (l .result .design) (l .ensures)
+    design-gives (c .before .admit-runs .ensures) (l .result .number) (l .result .design) (l .ensures)
 
 pub design-of-runs-spec : {M : Type 1} → statement M
 design-of-runs-spec = tie.close (tie.spec admit-runs-requires design-of-requires returns)

@@ -1,11 +1,8 @@
 -- `forms::design_of_words` meets its contract: the admitted plan is the words'. Assumes nothing.
 use borrow.Author.Needs.{needs}
-use mathlib.Core.Path.{refl}
-use Rattle.admission.specs.Admission.{standard-from-high}
 use Rattle.forms.proofs.design_of_words.Statement.{statement}
 use Rattle.forms.proofs.design_of_words.Tie as tie
 use Rattle.forms.specs.Made.{design-gives}
-use Rattle.regular.specs.Words.{Generated}
 
 admit-words-requires : tie.Need-admit-words-requires
 admit-words-requires c κs = search needs
@@ -15,11 +12,8 @@ design-of-requires c κs = search needs
 
 returns : tie.Need-returns
 returns c =
-    let a = c .before .before .before .args in
-    let q = c .before .admit-words in
     let l = c .design-of in
-    design-gives (q .ensures) (Generated (a .n) (a .g) (a .words .now)) (standard-from-high (q .ensures) refl) (l .result .number)
-    (l .result .design) (l .ensures)
+    design-gives (c .before .admit-words .ensures) (l .result .number) (l .result .design) (l .ensures)
 
 pub design-of-words-spec : {M : Type 1} → statement M
 design-of-words-spec = tie.close (tie.spec admit-words-requires design-of-requires returns)

@@ -1,11 +1,8 @@
 -- `forms::list_runs_of_words` meets its contract: the admitted plan is the words'. Assumes nothing.
 use borrow.Author.Needs.{needs}
-use mathlib.Core.Path.{refl}
-use Rattle.admission.specs.Admission.{standard-from-high}
 use Rattle.forms.proofs.list_runs_of_words.Statement.{statement}
 use Rattle.forms.proofs.list_runs_of_words.Tie as tie
 use Rattle.forms.specs.Made.{runs-fills}
-use Rattle.regular.specs.Words.{Generated}
 
 -- from the admitted plan back to the start
 abbrev start : tie.After-admit-words → tie.Start
@@ -23,11 +20,9 @@ same-length c = search needs
 returns : tie.Need-returns
 returns c =
     let o = c .before .before .before .before .before in
-    let a = start o .args in
     let q = o .admit-words in
     let l = c .before .before .lend-runs in
-    runs-fills (q .ensures) (Generated (a .n) (a .g) (a .words .now)) (standard-from-high (q .ensures) refl) (a .out .now) (l .last .1 .1 .1 .1 .0)
-    (l .result) (l .ensures)
+    runs-fills (q .ensures) (λ e. q .ensures .starts e .1) (start o .args .out .now) (l .last .1 .1 .1 .1 .1 .0) (l .result) (l .ensures)
 
 pub list-runs-of-words-spec : {M : Type 1} → statement M
 list-runs-of-words-spec =

@@ -8,14 +8,14 @@ use Rattle.forms.proofs.runs_of.Tie as tie
 returns : tie.Need-returns
 returns c = search needs
 
-sub-run-table : tie.Need-sub-run-table
-sub-run-table c =
+sub-switched-table : tie.Need-sub-switched-table
+sub-switched-table c =
     let p = c .before .pre in
     let t = c .if1 .left in
     omega (arith, p t .less)
 
-run-table-requires : tie.Need-run-table-requires
-run-table-requires c κs =
+switched-table-requires : tie.Need-switched-table-requires
+switched-table-requires c κs =
     let p = c .before .pre in
     let t = c .if1 .left in
     (p t .most, p t .few)
@@ -24,7 +24,7 @@ returns-2 : tie.Need-returns-2
 returns-2 c =
     let p = c .before .before .pre in
     let t = c .before .if1 .left in
-    record { same = refl; refused = λ h. absurd (omega arith); made = λ _. c .run-table .ensures }
+    record { same = refl; refused = λ h. absurd (omega arith); made = λ _. c .switched-table .ensures }
 
 pub runs-of-spec : {M : Type 1} → statement M
-runs-of-spec = tie.close (tie.spec returns sub-run-table run-table-requires returns-2)
+runs-of-spec = tie.close (tie.spec returns sub-switched-table switched-table-requires returns-2)

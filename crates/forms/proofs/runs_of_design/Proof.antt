@@ -15,7 +15,7 @@ returns c =
     let a = c .before .before .before .args in
     let q = c .before .before .admit-design in
     let l = c .runs-of in
-    given-gives (q .ensures) (a .design .columns) (l .result .number) (l .result .runs) (l .ensures)
+    given-gives (q .ensures) (a .design .columns) (a .design .mask) (l .result .number) (l .result .runs) (l .ensures)
 
 pub runs-of-design-spec : {M : Type 1} → statement M
 runs-of-design-spec = tie.close (tie.spec admit-design-requires runs-of-requires returns)

@@ -1,12 +1,8 @@
 -- `forms::words_of_design` meets its contract: the admitted plan is the record's. Assumes nothing.
 use borrow.Author.Needs.{needs}
-use mathlib.Core.Path.{refl}
-use Rattle.admission.specs.Admission.{standard-from-high}
 use Rattle.forms.proofs.words_of_design.Statement.{statement}
 use Rattle.forms.proofs.words_of_design.Tie as tie
 use Rattle.forms.specs.Made.{words-fills}
-use Rattle.regular.specs.Columns.{planOf}
-use Prim.Native.Nat.{_-_}
 
 -- from the admitted plan back to the start
 abbrev start : tie.After-admit-design → tie.Start
@@ -24,11 +20,8 @@ same-length c = search needs
 returns : tie.Need-returns
 returns c =
     let o = c .before .before .before .before in
-    let a = start o .args in
-    let q = o .admit-design in
     let l = c .before .before .lend-words in
-    words-fills (q .ensures) (planOf (a .n) (a .n - a .g) (a .design .columns)) (standard-from-high (q .ensures) refl) (a .out .now) (l .last .1 .1 .1 .0)
-    (l .result) (l .ensures)
+    words-fills (o .admit-design .ensures) (start o .args .out .now) (l .last .1 .1 .1 .0) (l .result) (l .ensures)
 
 pub words-of-design-spec : {M : Type 1} → statement M
 words-of-design-spec =

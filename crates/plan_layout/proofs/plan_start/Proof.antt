@@ -10,7 +10,7 @@ plan-bytes-requires c κs = search needs
 
 mul-result : tie.Need-mul-result
 mul-result c =
-    record { fits = subst (λ (k : ℕ). c .before .args .i * k < 2 ^ 64) (sym (c .plan-bytes .ensures)) (c .before .pre) }
+    record { fits = subst (λ (k : ℕ). c .before .args .i * k < 2 ^ 64) (sym (c .plan-bytes .ensures)) (c .before .pre .1) }
 
 returns : tie.Need-returns
 returns c = ap (λ (k : ℕ). c .before .args .i * k) (c .plan-bytes .ensures)

@@ -14,7 +14,7 @@ returns : tie.Need-returns
 returns c =
     let a = c .before .before .before .args in
     let q = c .before .bounds-number in
-    plans-sizes (a .n) (a .g) (a .r) (a .plans .now) (q .result) (c .if1 .taken) (q .ensures .2) (q .ensures .0)
+    plans-sizes (a .n) (a .g) (a .r) (a .bare) (a .plans .now) (q .result) (c .if1 .taken) (q .ensures .2) (q .ensures .0)
 
 whole-plans-requires : tie.Need-whole-plans-requires
 whole-plans-requires c κs = search needs
@@ -24,7 +24,7 @@ returns-2 c =
     let q = c .before .before .before .bounds-number in
     let a = c .before .before .before .before .before .args in
     let e = c .before .before .if1 .left in
-    plans-four (a .n) (a .g) (a .r) (a .plans .now) (subst (Lowest (sizeFaults (a .n) (a .g) (a .r))) e (q .ensures .0))
+    plans-four (a .n) (a .g) (a .r) (a .bare) (a .plans .now) (subst (Lowest (sizeFaults (a .n) (a .g) (a .r))) e (q .ensures .0))
     (c .before .whole-plans .ensures .1 (not-true _ (c .if2 .taken)))
 
 each-refusal-requires : tie.Need-each-refusal-requires
@@ -38,7 +38,7 @@ returns-3 c =
     let q = c .before .before .before .before .bounds-number in
     let a = c .before .before .before .before .before .before .args in
     let z = q .ensures .1 (c .before .before .before .if1 .left) in
-    judged-all (a .n) (a .g) (a .r) (a .plans .now) (c .before .before .whole-plans .ensures .0 (not-false _ (c .before .if2 .left))) (z .size .some)
+    judged-all (a .n) (a .g) (a .r) (a .bare) (a .plans .now) (c .before .before .whole-plans .ensures .0 (not-false _ (c .before .if2 .left))) (z .size .some)
     (c .each-refusal .result) (c .each-refusal .ensures)
 
 pub plans-refusal-spec : {M : Type 1} → statement M

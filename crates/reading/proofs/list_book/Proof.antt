@@ -97,7 +97,7 @@ loop-again c =
     (λ f h. made .array-of .ensures f ∙ ap (λ (x : List ℕ). getD x f 0) (made .before .columns-in .ensures)) (put .put-plan .ensures)
 
 same-length : tie.Need-same-length Inv-loop μ-loop
-same-length c = c .before .before .loop .inv .size
+same-length c = c .before .before .loop .inv .filled .size
 
 returns : tie.Need-returns Inv-loop μ-loop
 returns c =

@@ -9,7 +9,7 @@ use lib.ListN.{length}
 use Rattle.regular.specs.Reading.{columnsIn, patternPlace}
 use Rattle.regular.specs.Pattern.{Pattern}
 use Rattle.regular.specs.Columns.{planOf}
-use Rattle.regular.specs.Given.{ofColumns}
+use Rattle.regular.specs.Given.{ofBare}
 use Rattle.admission.specs.Admission.{Admission}
 use Rattle.reading.specs.Patterns.{no-pattern, counts-room, entry-ready, entry-pattern, true-pattern, untrue-pattern}
 use Rattle.reading.proofs.pattern_number.Statement.{statement}
@@ -55,31 +55,31 @@ returns c =
 columns-in-requires : tie.Need-columns-in-requires
 columns-in-requires c κs = start (c .before .before .before) .pre .1
 
-admit-columns-requires : tie.Need-admit-columns-requires
-admit-columns-requires c κs = search needs
+admit-bare-requires : tie.Need-admit-bare-requires
+admit-bare-requires c κs = search needs
 
 -- the plan is admitted
-module _ (c : tie.After-admit-columns) where
+module _ (c : tie.After-admit-bare) where
   abbrev first : tie.Start
   first = start (c .before .before .before .before .before)
 
   plan : Admission (first .args .n) (first .args .g)
-      (ofColumns (first .args .n) (first .args .g) (columnsIn (first .args .n) (first .args .book .now) (first .args .i))) (c .admit-columns .result)
+      (ofBare (first .args .n) (first .args .g) (columnsIn (first .args .n) (first .args .book .now) (first .args .i))) (c .admit-bare .result)
   plan =
       let a = first .args in
-      subst (λ (l : List ℕ). Admission (a .n) (a .g) (ofColumns (a .n) (a .g) l) (c .admit-columns .result)) (c .before .columns-in .ensures)
-      (c .admit-columns .ensures)
+      subst (λ (l : List ℕ). Admission (a .n) (a .g) (ofBare (a .n) (a .g) l) (c .admit-bare .result)) (c .before .columns-in .ensures)
+      (c .admit-bare .ensures)
 
 pattern-requires : tie.Need-pattern-requires
 pattern-requires c κs =
     let s = first (c .before) in
     let a = s .args in
     let e = s .pre .0 in
-    entry-ready (a .n) (a .g) (e .0) (columnsIn (a .n) (a .book .now) (a .i)) (e .1) (c .before .admit-columns .result) (plan (c .before))
+    entry-ready (a .n) (a .g) (e .0) (columnsIn (a .n) (a .book .now) (a .i)) (e .1) (c .before .admit-bare .result) (plan (c .before))
 
 -- the counts are those of the plan, and they have room
 module _ (c : tie.After-pattern) where
-  abbrev admitted : tie.After-admit-columns
+  abbrev admitted : tie.After-admit-bare
   admitted = c .before .before
 
   abbrev stands : tie.Else1
@@ -95,7 +95,7 @@ module _ (c : tie.After-pattern) where
       let s = first admitted in
       let a = s .args in
       let e = s .pre .0 in
-      entry-pattern (a .n) (a .g) (e .0) (columnsIn (a .n) (a .book .now) (a .i)) (e .1) (admitted .admit-columns .result) (plan admitted)
+      entry-pattern (a .n) (a .g) (e .0) (columnsIn (a .n) (a .book .now) (a .i)) (e .1) (admitted .admit-bare .result) (plan admitted)
       (c .pattern .result) (c .pattern .ensures .0)
 
   room : size .before .book-length .result + 1 + first admitted .args .n + 1 + (first admitted .args .n - 2) * 2
@@ -134,4 +134,4 @@ pub pattern-number-spec : {M : Type 1} → statement M
 pattern-number-spec =
     tie.close
     (tie.spec book-length-requires add-at add-at-2 add-record-number cast-record-number pattern-length-requires record-number-requires returns
-    columns-in-requires admit-columns-requires pattern-requires add-has-counts has-counts-requires returns-2 returns-3)
+    columns-in-requires admit-bare-requires pattern-requires add-has-counts has-counts-requires returns-2 returns-3)

@@ -18,7 +18,9 @@ as-index-requires : tie.Need-as-index-requires
 as-index-requires c κs = search needs
 
 plan-start-requires : tie.Need-plan-start-requires
-plan-start-requires c κs = plans-fit (c .as-index .result) (c .before .open .result .count) (c .as-index .ensures .1) (c .before .open .ensures .few)
+plan-start-requires c κs =
+    let small = c .as-index .ensures .1 in
+    (omega (arith, small), plans-fit (c .as-index .result) (c .before .open .result .count) small (c .before .open .ensures .few))
 
 judged-requires : tie.Need-judged-requires
 judged-requires c κs = c .before .before .open .ensures

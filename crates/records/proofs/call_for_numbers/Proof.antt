@@ -17,15 +17,6 @@ slice-aggregate-fill-numbers c = sym (length-take-le _ _ (search needs))
 fill-numbers-requires : tie.Need-fill-numbers-requires
 fill-numbers-requires c κs = search needs
 
-slice-aggregate-print-number : tie.Need-slice-aggregate-print-number
-slice-aggregate-print-number c = search needs
-
-cast-print-number : tie.Need-cast-print-number
-cast-print-number c = search needs
-
-print-number-requires : tie.Need-print-number-requires
-print-number-requires c κs = search needs
-
 print-lent-numbers-requires : tie.Need-print-lent-numbers-requires
 print-lent-numbers-requires c κs = search needs
 
@@ -40,8 +31,5 @@ call-for-numbers-spec =
     array-borrow-prefix-out
     slice-aggregate-fill-numbers
     fill-numbers-requires
-    slice-aggregate-print-number
-    cast-print-number
-    print-number-requires
     print-lent-numbers-requires
     returns-2)

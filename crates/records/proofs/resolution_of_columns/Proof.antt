@@ -1,4 +1,4 @@
--- As many columns as the list has, where the array has so many. Assumes nothing.
+-- As many bytes as the list has, where the array has so many. Assumes nothing.
 use mathlib.Core.Path.{sym}
 use lib.Seq.{length-take-le}
 use borrow.Author.Needs.{needs}
@@ -14,8 +14,8 @@ copy-bytes-requires c κs = search needs
 returns : tie.Need-returns
 returns c = search needs
 
-array-share-prefix-columns : tie.Need-array-share-prefix-columns
-array-share-prefix-columns c = search needs
+array-share-prefix-plan : tie.Need-array-share-prefix-plan
+array-share-prefix-plan c = search needs
 
 slice-aggregate-resolution-of-columns : tie.Need-slice-aggregate-resolution-of-columns
 slice-aggregate-resolution-of-columns c = sym (length-take-le _ _ (search needs))
@@ -36,7 +36,7 @@ resolution-of-columns-spec =
     slice-aggregate-copy-bytes
     copy-bytes-requires
     returns
-    array-share-prefix-columns
+    array-share-prefix-plan
     slice-aggregate-resolution-of-columns
     resolution-of-columns-requires
     print-resolution-requires

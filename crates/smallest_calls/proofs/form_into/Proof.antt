@@ -1,13 +1,13 @@
--- `smallest_calls::form_into` meets its contract: the columns are accepted and the lists have the places, so the form is found and lent. Assumes nothing.
+-- `smallest_calls::form_into` meets its contract: the plan is accepted and the lists have the places, so the form is found and lent, and the witness's
+-- mask put after its names. Assumes nothing.
 use Prim.Native.Nat.{_-_, _≤_}
-use mathlib.Core.Path.{_≡_, refl, subst, _∙_}
+use mathlib.Core.Path.{_≡_, sym, subst, _∙_}
 use native.Mathlib.Omega.{arith}
 use lib.ListN.{length}
 use Rattle.regular.specs.Given.{ofColumns}
 use Rattle.regular.specs.SmallestAnswers.{Formed}
-use Rattle.lent.specs.Lends.{lends-lent}
 use Rattle.plan_layout.specs.Places.{columns-within}
-use Rattle.smallest_calls.specs.Placed.{formed-accepted, formed-mask, lent-form}
+use Rattle.smallest_calls.specs.Placed.{LentPlan, lent-plan, formed-accepted, lent-form, named-form}
 use Rattle.smallest_calls.proofs.form_into.Statement.{statement}
 use Rattle.smallest_calls.proofs.form_into.Tie as tie
 use borrow.Author.Needs.{needs}
@@ -24,15 +24,21 @@ module _ (c : tie.After-form-of-columns) where
       let h : a .n ≤ length (a .witness .now) = omega (arith, p .2, columns-within (a .n)) in
       formed-accepted (c .form-of-columns .ensures) (p .0) h
 
--- from its lending back there
-abbrev formed : tie.After-lend-first-arg → tie.After-form-of-columns
+-- from the mask's putting back there, and from the lending back to that
+abbrev formed : tie.After-put-mask-arg → tie.After-form-of-columns
 formed c = c .before .before .before .before
+
+abbrev masked : tie.After-lend-plan-arg → tie.After-put-mask
+masked c = c .before .before .before
 
 form-of-columns-requires : tie.Need-form-of-columns-requires
 form-of-columns-requires c κs = search needs
 
-lend-first-requires : tie.Need-lend-first-requires
-lend-first-requires c κs = let q = formed c in q .form-of-columns .ensures .sizes (accepted q) .most
+put-mask-requires : tie.Need-put-mask-requires
+put-mask-requires c κs = let q = formed c in q .form-of-columns .ensures .made .size ∙ start q .pre .2
+
+lend-plan-requires : tie.Need-lend-plan-requires
+lend-plan-requires c κs = let q = formed (masked c .before) in q .form-of-columns .ensures .sizes (accepted q) .most
 
 same-length : tie.Need-same-length
 same-length c = search needs
@@ -43,22 +49,24 @@ same-length-2 c = search needs
 returns : tie.Need-returns
 returns c =
     let w = c .before .before in
-    let q = formed (w .before) in
+    let put = masked (w .before) in
+    let q = formed (put .before) in
     let a = start q .args in
     let p = start q .pre in
-    let f = q .form-of-columns in
-    let zs = f .last .1 .1 .1 .1 .0 in
-    let l = w .lend-first in
-    let filled = l .last .1 .1 .0 in
-    let lent = lends-lent (a .n) (f .result .design .columns) (a .out .now) filled (l .result) (omega (arith, p .1, columns-within (a .n))) (l .ensures) in
-    let b = f .ensures .made in
+    let b = q .form-of-columns .ensures .made in
+    let exit = put .put-mask .last .1 .1 .0 in
+    let l = w .lend-plan in
+    let filled = l .last .1 .1 .1 .0 in
+    let lent : LentPlan (a .n) (q .form-of-columns .result .design .columns) (a .out .now) filled = lent-plan (omega (arith, p .1)) (l .ensures) in
+    let m = put .put-mask .ensures in
     record {
-      form = subst (Formed (a .n) (a .n - a .g) (ofColumns (a .n) (a .g) (a .columns .now)) filled zs) (formed-mask (f .ensures) refl)
-          (lent-form (b .design (accepted q) .columns) lent);
-      size = (l .ensures .size ∙ p .1, b .size ∙ p .2);
+      form = subst (Formed (a .n) (a .n - a .g) (ofColumns (a .n) (a .g) (a .plan .now)) filled exit) (sym (m .mask))
+          (named-form (lent-form (b .design (accepted q) .columns) (lent .columns)) (m .columns));
+      unswitched = lent .unswitched;
+      size = (l .ensures .size ∙ p .1, m .size ∙ b .size ∙ p .2);
     }
 
 pub form-into-spec : {M : Type 1} → statement M
 form-into-spec =
     tie.close
-    (tie.spec form-of-columns-requires lend-first-requires same-length same-length-2 returns)
+    (tie.spec form-of-columns-requires put-mask-requires lend-plan-requires same-length same-length-2 returns)

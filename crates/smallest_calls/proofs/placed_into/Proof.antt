@@ -1,13 +1,13 @@
 -- `smallest_calls::placed_into` meets its contract: a refusal leaves the list; an accepted form is lent and looked for. Assumes nothing.
 use mathlib.Core.Path.{refl}
 use native.Mathlib.Omega.{arith}
-use Rattle.lent.specs.Lends.{lends-lent}
+use Rattle.smallest_calls.specs.Placed.{lent-plan}
 use Rattle.smallest_calls.proofs.placed_into.Statement.{statement}
 use Rattle.smallest_calls.proofs.placed_into.Tie as tie
 use borrow.Author.Needs.{needs}
 
 -- from the form lent back to where it is accepted, and from there to the start
-abbrev accepted : tie.After-lend-first → tie.Else1
+abbrev accepted : tie.After-lend-plan → tie.Else1
 accepted c = c .before .before .before
 
 abbrev start : tie.Else1 → tie.Start
@@ -25,8 +25,8 @@ returns c =
       size = refl;
     }
 
-lend-first-requires : tie.Need-lend-first-requires
-lend-first-requires c κs = let z = c .before .before in start z .pre (z .if1 .left) .1
+lend-plan-requires : tie.Need-lend-plan-requires
+lend-plan-requires c κs = let z = c .before .before in start z .pre (z .if1 .left) .1
 
 first-columns-requires : tie.Need-first-columns-requires
 first-columns-requires c κs =
@@ -40,10 +40,9 @@ same-length c = search needs
 returns-2 : tie.Need-returns-2
 returns-2 c =
     let q = c .before .before .before in
-    let l = q .lend-first in
+    let l = q .lend-plan in
     let z = accepted q in
     let s = start z in
-    let a = s .args in
     let e = z .if1 .left in
     let p = s .pre e in
     record {
@@ -51,7 +50,7 @@ returns-2 c =
       mask = refl;
       no-place = λ h. absurd (omega (arith, e));
       untouched = λ h. absurd (omega (arith, e));
-      lent = λ _. lends-lent (a .n) (a .form .design .columns) (a .out .now) (l .last .1 .1 .0) (l .result) (p .2) (l .ensures);
+      lent = λ _. lent-plan (p .2) (l .ensures);
       place = λ _. c .first-columns .ensures;
       size = l .ensures .size;
     }
@@ -59,4 +58,4 @@ returns-2 c =
 pub placed-into-spec : {M : Type 1} → statement M
 placed-into-spec =
     tie.close
-    (tie.spec returns lend-first-requires first-columns-requires same-length returns-2)
+    (tie.spec returns lend-plan-requires first-columns-requires same-length returns-2)

@@ -3,6 +3,7 @@
 -- `form_of_design`, at its own lifetime, share and name: what that says of the last list is what is said at the exit. Assumes nothing.
 use mathlib.Core.Path.{_≡_, refl, ap}
 use Prim.Native.Nat.{ℕ, _≤_, _<_, _^_}
+use mathlib.Core.Bool.{false}
 use mathlib.Core.List.{[], _∷_, List}
 use lib.Dec.{lit<}
 use lib.ListN.{length}
@@ -20,7 +21,7 @@ use contract.Monad.{Fun, fact}
 use contract.Running.{givenOf, tables, tablesOf}
 use types.Kit.{Given, ‵, raw, _⊛_, some, later, ⋆, _$_, _∵_, !, qed, by, move, keep, drop as toss, use1}
 use types.Kit.{use2, split, join, pick, rewrite, await, fsplit, fjoin, feqL, suffices, frame, done}
-use types.Run.{look, init, forget, stop, hop, fld, from, load, lit, addr, assigns, land, and-then}
+use types.Run.{look, init, forget, stop, hop, fld, from, load, lit, false-lit, addr, assigns, land, and-then}
 use types.Run.{no-more, returns, enter, alloc1, alloc0, params1, pass1, pass0, free1, free0}
 use types.Part.{agg, whole, sub, look-in}
 use sound.WpLaws.{FmC, fmOf, WpFn-mono}
@@ -139,7 +140,7 @@ module _ {M : Type 1} (𝓤 : URA M) (H : Heap 𝓤) (A : Atoms 𝓤) (W : Given
   Formed-at k zs u = ReducesBeside n g (ofDesign n g d) k ys zs u
 
   -- the code asks for 3, and then no more is found than the list's own faults
-  promised : (k : ℕ) (zs : List ℕ) (u : SmallestAnswer) (p : ℕ) (r : SmallestAnswer) → Lowest (wantedRecordsFaults n g asked ds) k → Formed-at k zs u
+  promised : (k : ℕ) (zs : List ℕ) (u : SmallestAnswer) (p : ℕ) (r : SmallestAnswer) → Lowest (wantedRecordsFaults n g asked false ds) k → Formed-at k zs u
       → DesignPlace ds (u .design) p → WithPlace u p r → Promised zs r
   promised k zs u p r low e h i =
       formed-among ds (three-records n g ds k low) e p r h i
@@ -198,11 +199,12 @@ module _ {M : Type 1} (𝓤 : URA M) (H : Heap 𝓤) (A : Atoms 𝓤) (W : Given
           (goes-refuse 𝓤 H A mem run W κ q b o γ ds (named 0) n g asked n-fits g-fits (lit< tt)) $
           calls-at ! fm (Refuse 𝓤 H A mem run) refuses (to-refuse 𝓤 H A mem run W κ q b o γ ds n g asked)
           (and-then ! (load ! (from ! (stop !)) (look ! 23 refl)) (and-then ! (load ! (from ! (stop !)) (look ! 21 refl))
-          (and-then ! (lit ! tt) (and-then ! (load ! (from ! (stop !)) (look ! 17 refl)) (no-more !))))) (λ v₁.
+          (and-then ! (lit ! tt) (and-then ! (false-lit !) (and-then ! (load ! (from ! (stop !)) (look ! 17 refl)) (no-more !)))))) (λ v₁.
           use1 W (later (some (λ (k : ℕ). ((‵ (flft κ q) ⊛ ‵ ftrue) ⊛ ‵ (u8 .own k (v₁ ∷ []))) ⊛
-          raw (ensured 𝓤 H A refuse.ended (refuse.clauses 𝓤 H A mem run) (κ, tt) (n, (g, (asked, (x, tt)))) tt k)))) (id⊢ 𝓤 _) $ await ! tt $ pick ! (λ k.
-          split ! $ move ! (1 ∷ []) $ use1 W (raw (fact 𝓤 (Lowest (wantedRecordsFaults n g asked ds) k))) (refuse-of 𝓤 H A mem run κ n g asked x k) $
-          heard ! (Lowest (wantedRecordsFaults n g asked ds) k) (λ low. split ! $ split ! $ move ! (2 ∷ []) $
+          raw (ensured 𝓤 H A refuse.ended (refuse.clauses 𝓤 H A mem run) (κ, tt) (n, (g, (asked, (false, (x, tt))))) tt k)))) (id⊢ 𝓤 _)
+          $ await ! tt $ pick ! (λ k.
+          split ! $ move ! (1 ∷ []) $ use1 W (raw (fact 𝓤 (Lowest (wantedRecordsFaults n g asked false ds) k))) (refuse-of 𝓤 H A mem run κ n g asked x k) $
+          heard ! (Lowest (wantedRecordsFaults n g asked false ds) k) (λ low. split ! $ split ! $ move ! (2 ∷ []) $
           facts ! u8 (Is u8) (shows 𝓤 H A u8) k (v₁ ∷ []) (λ is-k. move ! (1 ∷ []) $ toss ! $
           -- [the list's token; the witness's token; the witness; the list; the list; _10; …; _0; …]
           land ! (from ! (stop !)) (init ! 13 refl (uint-lawful 𝓤 H A W w8 .typed k _ is-k .0)) $
@@ -211,7 +213,7 @@ module _ {M : Type 1} (𝓤 : URA M) (H : Heap 𝓤) (A : Atoms 𝓤) (W : Given
           assigns ! (agg ! (and-then ! (load ! (from ! (stop !)) (look ! 7 refl))
           (and-then ! (load ! (from ! (fld ! refl (stop !))) (look-in ! 15 (sub ! 1 refl (whole !)))) (no-more !)))) (from ! (stop !))
           (init ! 5 refl (tt, (tt, (record { fits = room′ .0 }, tt)))) $
-          move ! (1 ∷ 2 ∷ []) $ use2 W (raw (Form 𝓤 H A mem run .pre (to-form k))) (goes-form k (is-k .1) (records-number n g asked ds k low)) $
+          move ! (1 ∷ 2 ∷ []) $ use2 W (raw (Form 𝓤 H A mem run .pre (to-form k))) (goes-form k (is-k .1) (records-number n g asked false ds k low)) $
           calls-at ! fm (Form 𝓤 H A mem run) forms (to-form k)
           (and-then ! (load ! (from ! (stop !)) (look ! 22 refl)) (and-then ! (load ! (from ! (stop !)) (look ! 20 refl))
           (and-then ! (load ! (from ! (stop !)) (look ! 18 refl))

@@ -1,0 +1,10 @@
+pub mod Masks
+pub mod MaskLaws
+pub mod SpanLaws
+pub mod SignLaws
+pub mod OneRecord
+pub mod FractionLaws
+pub mod SignedWordsLaws
+pub mod MeasureLaws
+pub mod SignLetter
+pub mod SignLetterLaws

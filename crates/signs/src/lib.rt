@@ -1,0 +1,1 @@
+// Signs of words and switch masks: definitions and theorems. No code.
