@@ -1,4 +1,6 @@
 // The one of two lists of words, taken without signs, whose plan has less aberration.
+#![tactic(auto)]
+
 ghost use Rattle.std.specs.Prelude.{◌-◌};
 ghost use Rattle.gf2.specs.Answers.{Tells};
 ghost use Rattle.regular.specs.Columns.{plan_of};

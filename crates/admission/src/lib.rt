@@ -1,5 +1,7 @@
 // Plans in any of their forms are admitted here: refused by the lowest number that applies, or brought into standard columns and the run that they start
 // from.
+#![tactic(auto)]
+
 ghost use Rattle.std.specs.Prelude.{◌≡◌, true, false, ℕ, ◌≤◌, ◌<◌, length, get_or, replicate};
 ghost use Rattle.regular.specs.Sizes.{Size, Sized};
 ghost use Rattle.regular.specs.Refusals.{SizeFault, size_faults, Lowest};

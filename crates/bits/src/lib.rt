@@ -1,4 +1,6 @@
 // Digits of runs, words and columns, and bytes and numbers as indices.
+#![tactic(auto)]
+
 ghost use Rattle.std.specs.Prelude.{◌≡◌, ◌^◌, ◌<◌, ◌≤◌};
 ghost use Rattle.std.specs.Int.Count.{ones};
 ghost use Rattle.gf2.specs.Digits.{bit, odd};

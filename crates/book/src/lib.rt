@@ -1,4 +1,6 @@
 // The book of a list of plans, into lent bytes: all is judged first, then the header and entry after entry are written.
+#![tactic(auto)]
+
 ghost use Rattle.std.specs.Prelude.{◌≡◌, ℕ, ◌+◌, ◌*◌, ◌-◌, ◌≤◌, length};
 ghost use Rattle.regular.specs.Pattern.{of_length};
 ghost use Rattle.regular.specs.PlanBytes.{plan_count};

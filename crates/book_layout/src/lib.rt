@@ -1,4 +1,6 @@
 // A book's layout: the kinds of its records, and how long they are. An entry starts where the book of the entries before it ends.
+#![tactic(auto)]
+
 ghost use Rattle.std.specs.Prelude.{◌≡◌, ◌≤◌};
 ghost use Rattle.regular.specs.Book.{pattern_length, book_length, most_plans};
 

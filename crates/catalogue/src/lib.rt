@@ -1,4 +1,6 @@
 // The catalogue of N, G and R into a lent list: entry after entry, by the step that finds the next.
+#![tactic(auto)]
+
 ghost use Rattle.std.specs.Prelude.{◌≡◌, []};
 ghost use Rattle.regular.specs.Designs.{blank};
 ghost use Rattle.entries.specs.Tracing.{StateOf};
@@ -7,12 +9,12 @@ ghost use Rattle.catalogue.specs.Records.{StepAnswers};
 ghost use Rattle.regular.specs.Catalogues.{ListsBytes, ListsDesigns};
 
 use admission::bounds_number;
-use entries::{WalkState, next_entry, walk_start_lem};
+use entries::{WalkState, next_entry, walk_start};
 use plan_layout::{blank_design, plan_count, put_plan};
 use regular::{CatalogueAnswer, Design, FACTORS};
 
 // What a turn finds: the next entry's columns and state, or the answer's number.
-#[derive(Drop)]
+#[derive(Clone, Copy)]
 struct Turn {
     found: bool,
     number: u8,
@@ -76,7 +78,7 @@ pub fn list_catalogue(n: usize, g: usize, r: usize, out: &mut [u8]) -> Catalogue
 {
     let places = plan_count(n, out.len());
     let mut c = [0u8; FACTORS];
-    let mut state = walk_start_lem();
+    let mut state = walk_start();
     let mut count: usize = 0;
     loop {
         let s = advance(n, g, r, count, count < places, c, state);
@@ -95,14 +97,14 @@ pub fn list_catalogue(n: usize, g: usize, r: usize, out: &mut [u8]) -> Catalogue
 }
 
 // A place in the catalogue: the entry's record, and the state to it.
-#[derive(Drop)]
+#[derive(Clone, Copy)]
 struct Stop {
     design: Design,
     state: WalkState,
 }
 
 // What a turn of the loop over records finds: the next place, or the answer.
-#[derive(Drop)]
+#[derive(Clone, Copy)]
 struct NextStop {
     found: bool,
     stop: Stop,
@@ -114,7 +116,7 @@ fn begin() -> Stop
     ensures { (result.design ≡ blank) × StateOf 0 [] result.state }
 {
     let design = blank_design();
-    let state = walk_start_lem();
+    let state = walk_start();
     Stop { design, state }
 }
 

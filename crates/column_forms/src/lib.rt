@@ -1,4 +1,6 @@
 // From columns to their standard columns, their run table, the mask of a run, and whether one is 0 or stands twice.
+#![tactic(auto)]
+
 ghost use Rattle.std.specs.Prelude.{◌≡◌, true, false, ℕ, ◌*◌, ◌^◌, ◌<◌, ◌≤◌, length, get_or};
 ghost use Rattle.std.specs.Int.Bits.{bit_xor};
 ghost use Rattle.gf2.specs.Answers.{Tells};
@@ -29,7 +31,7 @@ pub fn double(c: u8, half: usize, sums: &mut [u8; NUMBERS], places: &mut [u8; NU
 }
 
 // How many numbers the columns reach, and their columns in standard form.
-#[derive(Drop)]
+#[derive(Clone, Copy)]
 struct Walked {
     half: usize,
     columns: [u8; FACTORS],

@@ -1,4 +1,6 @@
 // Words, columns and run tables turned into each other.
+#![tactic(auto)]
+
 ghost use Rattle.std.specs.Prelude.{◌≡◌, ◌-◌, ◌^◌, ◌≤◌, replicate};
 ghost use Rattle.regular.specs.Sizes.{Size};
 ghost use Rattle.regular.specs.Columns.{ListedWith, RunTableWith, RunsOfPlan};

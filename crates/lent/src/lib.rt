@@ -1,4 +1,6 @@
 // Results go into lent lists: a list of too few places is refused, else the first places are filled and the places past them are untouched.
+#![tactic(auto)]
+
 ghost use Rattle.std.specs.Prelude.{◌≡◌, ◌+◌, ◌≤◌, length};
 ghost use Rattle.std.proofs.Math.Seq.{paste};
 ghost use Rattle.regular.specs.Smallest.{Equal};

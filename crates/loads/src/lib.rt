@@ -1,4 +1,6 @@
 // A load of plans from a seed: columns that nobody picked, by draws from a state of 32 bits.
+#![tactic(auto)]
+
 ghost use Rattle.std.specs.Prelude.{◌≡◌, ℕ, ◌+◌, ◌-◌, ◌%◌, ◌^◌, ◌<◌, ◌≤◌, List, length};
 ghost use Rattle.regular.specs.Columns.{Column};
 ghost use Rattle.regular.specs.Refusals.{Lowest};
@@ -13,7 +15,7 @@ use regular::{FACTORS, LoadAnswer, NUMBERS, StateAnswer};
 const STEP: u32 = 2654435769;
 
 // The columns that were drawn, and the state after the draws.
-#[derive(Drop)]
+#[derive(Clone, Copy)]
 struct Drawn {
     state: u32,
     columns: [u8; FACTORS],

@@ -1,4 +1,6 @@
 // The first place of a plan in a lent list of plans, as records or as bytes.
+#![tactic(auto)]
+
 ghost use Rattle.std.specs.Prelude.{◌≡◌, ◌≤◌};
 ghost use Rattle.regular.specs.SmallestAnswers.{DesignPlace, ColumnsPlace};
 ghost use Rattle.lookup.specs.Looking.{Looked};

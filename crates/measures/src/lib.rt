@@ -1,4 +1,6 @@
 // Pattern, resolution and distance counts of a plan in any of its forms.
+#![tactic(auto)]
+
 ghost use Rattle.std.specs.Prelude.{◌≡◌, ℕ, ◌+◌, ◌-◌, ◌≤◌, get_or};
 ghost use Rattle.regular.specs.Columns.{plan_of};
 ghost use Rattle.regular.specs.Pattern.{Pattern, Distances};

@@ -1,4 +1,6 @@
 // Pattern, resolution, distance counts, and which of two patterns is better, on plain numbers and arrays.
+#![tactic(auto)]
+
 ghost use Rattle.std.specs.Prelude.{◌≡◌, ◌≤◌, length};
 ghost use Rattle.gf2.specs.Answers.{Tells};
 ghost use Rattle.gf2.specs.Doubling.{Doubling};

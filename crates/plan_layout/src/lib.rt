@@ -1,5 +1,7 @@
 // A plan in bytes and as a record: where plan i of several stands, how it is read, put and compared; how a record is made and compared. How many bytes
 // a plan takes, where its mask stands and which fields a record has is known here, and in no other crate that takes plans one after another.
+#![tactic(auto)]
+
 ghost use Rattle.std.specs.Prelude.{◌≡◌, ℕ, ◌≤◌, ◌<◌, ◌^◌, length, get_or};
 ghost use Rattle.gf2.specs.Answers.{Tells};
 ghost use Rattle.regular.specs.Designs.{design_with, design_of, blank};

@@ -1,5 +1,7 @@
 // Lists of plans, as design records or as bytes: the lowest number that the sizes or any plan of the list is refused by, a resolution r being
 // wanted, and plans bare of switches or not. Where no resolution is wanted, r is 3, which adds nothing (`three_records`, `three_plans`).
+#![tactic(auto)]
+
 ghost use Rattle.std.specs.Prelude.{◌≡◌, ◌-◌, length};
 ghost use Rattle.regular.specs.Columns.{plan_of};
 ghost use Rattle.regular.specs.Refusals.{SwitchFault, Lowest, size_faults};

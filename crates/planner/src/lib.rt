@@ -1,5 +1,7 @@
 // The functions that the C planner and the tests call: plain numbers and lists, no requires, and nothing but a call of the function that has the
 // same contract. include/planner.h says what each one means.
+#![tactic(auto)]
+
 ghost use Rattle.std.specs.Prelude.{◌≡◌, ◌-◌, ◌^◌};
 ghost use Rattle.regular.specs.Columns.{ListedWith, RunsOfPlan};
 ghost use Rattle.regular.specs.PlanBytes.{mask_in};

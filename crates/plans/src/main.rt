@@ -1,9 +1,14 @@
 // Prints the catalogue of the size that the first line of standard input gives, and reads nothing past that line.
+#![tactic(auto)]
+
 ghost use Rattle.std.specs.Prelude.{◌≤◌, length};
 ghost use Rattle.io.specs.Counts.{IsPrefixLen};
 ghost use Rattle.printing.specs.Output.{Output, line_room};
 
-use libc::{STDIN_FILENO, STDOUT_FILENO};
+// Standard input and standard output, as the system numbers them.
+const STDIN: i32 = 0;
+
+const STDOUT: i32 = 1;
 
 // The bytes of a line that decide what is printed for it (`line_room`).
 const LINE: usize = 9;
@@ -11,7 +16,7 @@ const LINE: usize = 9;
 // The bytes that suffice for any output (`output_room`).
 const OUTPUT: usize = 102 + 1024 * 177 + 15;
 
-#[derive(Drop)]
+#[derive(Clone, Copy)]
 enum Got {
     Byte(u8),
     End,
@@ -20,7 +25,7 @@ enum Got {
 // One byte of standard input. A read of one byte consumes no more than that.
 fn read_byte() -> Got {
     let mut b = [0u8; 1];
-    let got = libc::read(STDIN_FILENO, &mut b);
+    let got = io::read_full(STDIN, &mut b);
     if got == 1 { Got::Byte(b[0]) } else { Got::End }
 }
 
@@ -65,7 +70,7 @@ fn read_line(line: &mut [u8]) -> usize
 fn write_output(line: &[u8], out: &[u8])
     requires { Output line.now out.now }
 {
-    io::write_all(STDOUT_FILENO, out);
+    io::write_all(STDOUT, out);
 }
 
 fn main() {

@@ -1,6 +1,8 @@
 // The lines that are printed, made in a lent list of bytes: each function adds its text from a place on and says the place after it. The lines are
 // public for what is printed as a whole. Of the bytes that a text may take, and of the room that it asks for, each function says the least that its
 // arguments' types allow.
+#![tactic(auto)]
+
 ghost use Rattle.std.specs.Prelude.{◌+◌, ◌-◌, ◌*◌, ◌≤◌, length};
 ghost use Rattle.printed_lines.specs.Text.{TextAdded, decimal, next, columns_text, counts_text, header_line, refused, not_asize};
 ghost use Rattle.printed_lines.specs.Text.{start, entry, EntryLine, header_most, entry_most, entry_room};

@@ -1,4 +1,6 @@
 // What the program `plans` prints for a line, all of it, in a lent list of bytes.
+#![tactic(auto)]
+
 ghost use Rattle.std.specs.Prelude.{◌≤◌, length, replicate};
 ghost use Rattle.regular.specs.Catalogues.{ListsDesigns};
 ghost use Rattle.printed_lines.specs.Text.{header_most, output_room};
@@ -10,7 +12,7 @@ use regular::{CatalogueAnswer, Design};
 use size_lines::parse;
 
 // A catalogue: the answer, and the list that was lent for it.
-#[derive(Drop)]
+#[derive(Clone, Copy)]
 struct Filled {
     answer: CatalogueAnswer,
     list: [Design; 1024],

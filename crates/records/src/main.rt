@@ -1,14 +1,20 @@
 // Makes the calls that C cannot: those on design records, and those that answer a record, a run table or a list. Each line of standard input is a
 // call: which one, N, G, a number more, and the numbers of its lists, a space between. What it answers is printed in a line.
+#![tactic(auto)]
+
 ghost use Rattle.std.specs.Prelude.{◌≤◌, length};
 ghost use Rattle.io.specs.Counts.{IsPrefixLen};
 
 use bits::wide;
-use libc::{STDIN_FILENO, STDOUT_FILENO};
 use regular::{
     Compared, Design, DesignAnswer, FACTORS, LoadAnswer, ResolutionAnswer, RunsAnswer, SignsAnswer,
     SmallestAnswer,
 };
+
+// Standard input and standard output, as the system numbers them.
+const STDIN: i32 = 0;
+
+const STDOUT: i32 = 1;
 
 // The numbers of a record: two counts, sixteen columns and a mask.
 const RECORD: usize = 19;
@@ -17,7 +23,7 @@ const RECORD: usize = 19;
 const LENT: usize = 20;
 
 // A number that was read, and the byte after it.
-#[derive(Drop)]
+#[derive(Clone, Copy)]
 struct Numeral {
     value: u16,
     end: u8,
@@ -26,7 +32,7 @@ struct Numeral {
 // One byte of standard input, a line's end if there is none.
 fn read_byte() -> u8 {
     let mut b = [b'\n'; 1];
-    libc::read(STDIN_FILENO, &mut b);
+    io::read_full(STDIN, &mut b);
     b[0]
 }
 
@@ -106,19 +112,19 @@ fn design_at(list: &[u16], p: usize) -> Design
 
 // A number after a space.
 fn print_next(x: u64) {
-    io::write_all(STDOUT_FILENO, b" ");
-    io::print_decimal(STDOUT_FILENO, x);
+    io::write_all(STDOUT, b" ");
+    io::print_decimal(STDOUT, x);
 }
 
 // A number after its name.
 fn print_number(name: &[u8], x: u64) {
-    io::write_all(STDOUT_FILENO, name);
+    io::write_all(STDOUT, name);
     print_next(x);
 }
 
 // Numbers after their name.
 fn print_numbers(name: &[u8], list: &[u16]) {
-    io::write_all(STDOUT_FILENO, name);
+    io::write_all(STDOUT, name);
     let mut i: usize = 0;
     while i < list.len() {
         print_next(list[i] as u64);
@@ -127,7 +133,7 @@ fn print_numbers(name: &[u8], list: &[u16]) {
 }
 
 fn print_bytes(name: &[u8], list: &[u8]) {
-    io::write_all(STDOUT_FILENO, name);
+    io::write_all(STDOUT, name);
     let mut i: usize = 0;
     while i < list.len() {
         print_next(list[i] as u64);
@@ -303,7 +309,7 @@ fn answer(line: &[u16])
     let signs = line[3];
     let k = wide(signs);
     let list = &line[4..];
-    io::print_decimal(STDOUT_FILENO, call as u64);
+    io::print_decimal(STDOUT, call as u64);
     match call {
         1..=5 => call_on_list(call, n, g, signs, list),
         6 => resolution_of_columns(n, g, list),
@@ -314,7 +320,7 @@ fn answer(line: &[u16])
         14 => load(n, g, list),
         _ => call_for_names(call, n, g, k, list),
     }
-    io::write_all(STDOUT_FILENO, b"\n");
+    io::write_all(STDOUT, b"\n");
 }
 
 fn main() {

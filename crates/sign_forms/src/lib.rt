@@ -1,5 +1,7 @@
 // From the signs of words to the mask of their plan, and from the mask to the signs of its words.
 // A sign takes the place of letter A: where a word is minus, the word with A and a run in which A is low have an even number of low levels.
+#![tactic(auto)]
+
 ghost use Rattle.std.specs.Prelude.{◌≡◌, ◌≤◌, length};
 ghost use Rattle.regular.specs.Words.{Fraction};
 ghost use Rattle.regular.specs.Columns.{run_of, Allowed};

@@ -1,1 +1,2 @@
 // Signs of words and switch masks: definitions and theorems. No code.
+#![tactic(auto)]

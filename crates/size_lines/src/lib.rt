@@ -1,18 +1,20 @@
 // The size that a line gives: three numbers of one or two digits, a space between.
+#![tactic(auto)]
+
 ghost use Rattle.std.specs.Prelude.{◌≡◌, false, ◌≤◌};
 ghost use Rattle.size_lines.specs.Lines.{DigitIs, SpaceIs, NumberPart, Parsed};
 
 use bits::as_index;
 
 // A number of one or two digits, and the place after it.
-#[derive(Drop)]
+#[derive(Clone, Copy)]
 struct Numeral {
     value: usize,
     end: usize,
 }
 
 // What a line says: a size, or none; all 0 if none.
-#[derive(Drop)]
+#[derive(Clone, Copy)]
 pub struct LineSize {
     pub ok: bool,
     pub n: usize,

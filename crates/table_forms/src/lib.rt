@@ -1,6 +1,8 @@
 // From a run table to its standard columns, deciding on the way whether its runs are different and regular.
 // The walk goes over the factors from A. A factor whose levels hang on those of the basic factors so far takes the one column that can say
 // how; any other is the next basic factor.
+#![tactic(auto)]
+
 ghost use Rattle.std.specs.Prelude.{◌≡◌, true, false, ℕ, ◌+◌, ◌*◌, ◌^◌, ◌<◌, ◌≤◌, length, get_or};
 ghost use Rattle.gf2.specs.Members.{In};
 ghost use Rattle.regular.specs.Runs.{Table, switched, runs_of};
@@ -52,7 +54,7 @@ fn places(count: usize, coords: &[u16; RUNS]) -> [usize; RUNS]
     v
 }
 
-#[derive(Drop)]
+#[derive(Clone, Copy)]
 struct Forced {
     ok: bool,
     column: u16,
@@ -139,7 +141,7 @@ fn extend(t: &[u16], coords: [u16; RUNS], f: usize, half: u16) -> [u16; RUNS]
 
 // The walk: the columns of the factors passed, how many are basic, the next unit, each run's levels at the basic factors, and a run for
 // each choice of these levels. Not ok if the runs turned out not to be different and regular.
-#[derive(Drop)]
+#[derive(Clone, Copy)]
 struct Walked {
     ok: bool,
     columns: [u8; FACTORS],

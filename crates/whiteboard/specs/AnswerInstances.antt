@@ -129,7 +129,7 @@ chooses_refused = Chooses.refused 7 (omega arith) (twice (words_faults 3 1 (3 �
 
 -- a list lent from a place
 abbrev lent_at : ℕ → List ℕ → Bor (List ℕ)
-lent_at place list = record { ref_ptr = (place, 0); ghost_name = place; now = list }
+lent_at place list = record { ref_ptr = (place, 0); now = list }
 
 pub hands_second : HandsBackLess 4 3 (of_words 4 1 (7 ∷ []) 0) (of_words 4 1 (15 ∷ []) 0) (lent_at 1 (7 ∷ [])) (lent_at 2 (15 ∷ [])) (lent_at 2 (15 ∷ []))
 hands_second = record {

@@ -1,4 +1,6 @@
 // The check of a claimed witness between two run tables.
+#![tactic(auto)]
+
 ghost use Rattle.std.specs.Prelude.{◌≤◌};
 ghost use Rattle.gf2.specs.Answers.{Tells};
 ghost use Rattle.regular.specs.Comparisons.{ChecksWitness};

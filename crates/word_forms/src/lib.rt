@@ -1,4 +1,6 @@
 // From words to the standard columns of the plan that they generate: elimination with the last letter as pivot.
+#![tactic(auto)]
+
 ghost use Rattle.std.specs.Prelude.{◌≡◌, true, false, ℕ, ◌+◌, ◌-◌, ◌*◌, ◌^◌, ◌<◌, ◌≤◌, eqb, length, get_or, replicate};
 ghost use Rattle.std.specs.Int.Bits.{bit_xor};
 ghost use Rattle.gf2.specs.Digits.{bit, pick};
@@ -66,7 +68,7 @@ fn last_of(n: usize, w: u16) -> usize
 }
 
 // Whether the elimination went through, and the pivot words: the word with last letter f at place f, else 0.
-#[derive(Drop)]
+#[derive(Clone, Copy)]
 struct Pivoted {
     ok: bool,
     piv: [u16; FACTORS],
