@@ -7,7 +7,8 @@ use Rattle.regular.specs.Runs.{Runs, Agree, Table, runs_of, switched}
 use Rattle.regular.specs.Columns.{plan_of, plan_with, StandardColumns, Allowed, Standard}
 use Rattle.regular.specs.Smallest.{Equal}
 use Rattle.standard.specs.Form.{StandardFor}
-use Rattle.standard.specs.FromTable.{table_standard, head_in}
+use Rattle.standard.specs.FromTable.{head_in}
+use Rattle.standard.proofs.FromTable.{table_standard}
 use Rattle.standard.specs.Model.{standard}
 use Rattle.standard.specs.Runs.{run_zero}
 use Rattle.words.specs.Standards.{standard_columns_unique}

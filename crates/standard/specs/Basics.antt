@@ -5,10 +5,9 @@ use Rattle.std.proofs.Common.{ap, ◌∙◌, subst, inl, inr, ⊎_elim, mod-lt, 
 use Rattle.std.proofs.Math.Logic.{by_cases}
 use mathlib.Core.List.{List, [], ◌∷◌}
 use Prim.Native.Nat.{ℕ, zero, suc, ◌+◌, ◌*◌, ◌/◌, ◌%◌, ◌^◌, ◌≤◌, ◌<◌}
-use Rattle.std.proofs.Math.Nat.{two-pow-succ, mod-eq_of_lt}
+use Rattle.std.proofs.Math.Nat.{mod-eq_of_lt}
 use native.Mathlib.Omega.{arith}
 use Rattle.std.proofs.Math.Decide.{ℕ_discrete}
-use Rattle.std.proofs.lemmas.Bool.{eqb-false}
 use Rattle.std.specs.Int.Bits.{bit_xor, xor_mod, xor_self, xor_zero_r}
 use Rattle.std.proofs.Math.Pow.{split}
 use Rattle.std.proofs.Math.ListN.{length}
@@ -19,7 +18,7 @@ use Rattle.gf2.specs.Members.{In}
 use Rattle.gf2.specs.Parity.{number_of, number_lt, linear_is_odd, odd_keep, odd_fresh}
 use Rattle.gf2.specs.Truth.{and_both, clash}
 use Rattle.standard.specs.Coordinates.{coord_lt, coord_xor}
-use Rattle.standard.specs.Model.{coord_of, fits_all, first_from, first_fit, choose, basics_at, column_at}
+use Rattle.standard.specs.Model.{coord_of, fits_all, first_from, first_fit, column_at}
 
 -- column k gives factor f its level in every run of u
 abbrev pub ColumnFits : List ℕ → List ℕ → ℕ → ℕ → Type 0
@@ -162,57 +161,3 @@ pub record NextFactor (u : List ℕ) (f : ℕ) (bs bs2 : List ℕ) : Type 0 wher
   pub column_le : column_at u f ≤ 2 ^ length bs
   pub units : length bs2 ≡ length bs + pick (eqb (column_at u f) (2 ^ length bs)) 1 0
   pub after : After u bs2 (suc f)
-
-module _ (u : List ℕ) (closed : (x y : ℕ) → In x u → In y u → In (bit_xor x y) u) where
-  next_at : (bs : List ℕ) (f c : ℕ) (t : Bool) → After u bs f → column_at u f ≡ c → FirstFit bs u f 0 (2 ^ length bs) c → eqb c (2 ^ length bs) ≡ t
-      → NextFactor u f bs (choose t (f ∷ bs) bs)
-  next_at bs f c true a e fst t =
-      let l = length bs in
-      let q : c ≡ 2 ^ l = eqb-true c (2 ^ l) t in
-      let al = a.small in
-      let tw = two-pow-succ l in
-      let pp = pow_pos l in
-      record {
-        column_le = omega arith;
-        units = rw (e, t) (omega arith);
-        after = record {
-          small = omega arith;
-          onto = onto_next u closed bs f a.onto (⊎_elim (λ r i h. r.1 i (omega arith) h) (λ r i h. absurd (omega (arith, r.0))) fst);
-          fits = λ g h. by_cases (ℕ_discrete g f)
-              (λ s. rw s (omega arith, subst (λ (k : ℕ). ColumnFits (f ∷ bs) u f k) (sym (e ∙ q)) (fits_fresh bs u f)))
-              (λ ne. let r = a.fits g (omega arith) in (omega (arith, r.0), fits_keep bs u f g (column_at u g) r.0 r.1));
-        };
-      }
-  next_at bs f c false a e fst t =
-      let l = length bs in
-      let nq = eqb-false c (2 ^ l) t in
-      let al = a.small in
-      let hit : (c < 2 ^ l) × (fits_all bs u f c ≡ true) = ⊎_elim (λ r. absurd (nq r.0)) (λ r. r) fst in
-      let lt = hit.0 in
-      record {
-        column_le = omega arith;
-        units = rw (e, t) (omega arith);
-        after = record {
-          small = omega arith;
-          onto = a.onto;
-          fits = λ g h. by_cases (ℕ_discrete g f)
-              (λ s. rw s (omega arith, subst (λ (k : ℕ). ColumnFits bs u f k) (sym e) (fits_all_lem bs u f c hit.1)))
-              (λ ne. a.fits g (omega arith));
-        };
-      }
-
-  pub next_is : (f : ℕ) → After u (basics_at u f) f → NextFactor u f (basics_at u f) (basics_at u (suc f))
-  unfolding basics_at column_at
-  next_is f a =
-      let bs = basics_at u f in
-      next_at bs f (first_fit bs u f) (eqb (first_fit bs u f) (2 ^ length bs)) a refl (first_fit_lem bs u f) refl
-
-  pub after_is : In 0 u → (f : ℕ) → After u (basics_at u f) f
-  unfolding basics_at
-  after_is m zero =
-      record {
-        small = omega arith;
-        onto = λ j l. (0, (m, omega (arith, coord_lt [] 0)));
-        fits = λ g l. absurd (omega arith);
-      }
-  after_is m (suc f) = (next_is f (after_is m f)).after

@@ -10,7 +10,8 @@ use Rattle.regular.specs.Runs.{Runs, runs_of, switched, Table}
 use Rattle.regular.specs.Same.{moved, Renaming, Carries, Same}
 use Rattle.regular.specs.Words.{Word}
 use Rattle.standard.specs.Form.{StandardForm}
-use Rattle.standard.specs.FromTable.{table_standard, head_in}
+use Rattle.standard.specs.FromTable.{head_in}
+use Rattle.standard.proofs.FromTable.{table_standard}
 use Rattle.standard.specs.Model.{standard}
 use Rattle.standard.specs.Runs.{run_zero}
 use Rattle.words.specs.ReducedWords.{reduced_words_lem}
