@@ -13,7 +13,7 @@ use Rattle.regular.specs.Words.{NoShort, Independent, Fraction}
 use Rattle.standard.specs.FromColumns.{spans_apart, runs_table}
 use Rattle.standard.specs.Model.{run_table}
 use Rattle.standard.specs.Units.{standard_spans}
-use Rattle.words.specs.FromWords.{words_standard}
+use Rattle.words.proofs.FromWords.{words_standard}
 use Rattle.words.specs.Model.{word_columns, pivots_at}
 use Rattle.words.specs.Switches.{agree_sym, agree_trans, agree_refl, switched_twice, no_short_agree, no_short_switched}
 use Rattle.isomorphism_laws.specs.Masks.{plan_within}

@@ -12,7 +12,8 @@ use Rattle.regular.specs.Words.{Word, Generated, Independent, total}
 use Rattle.standard.specs.Form.{StandardFor}
 use Rattle.standard.specs.Runs.{total_lt, odd_total}
 use Rattle.standard.specs.Total.{independent_once}
-use Rattle.words.specs.FromWords.{words_standard, run_none}
+use Rattle.words.specs.FromWords.{run_none}
+use Rattle.words.proofs.FromWords.{words_standard}
 use Rattle.words.specs.Generators.{Generators}
 use Rattle.words.specs.Model.{word_columns, pivots_at}
 use Rattle.words.specs.ReducedWords.{words_generators}

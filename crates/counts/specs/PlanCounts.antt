@@ -10,7 +10,7 @@ use Rattle.regular.specs.Words.{Word, Generated}
 use Rattle.standard.specs.Form.{StandardFor}
 use Rattle.standard.specs.Model.{standard}
 use Rattle.standard.proofs.FromTable.{table_standard}
-use Rattle.words.specs.FromWords.{words_standard}
+use Rattle.words.proofs.FromWords.{words_standard}
 use Rattle.words.specs.Model.{word_columns, pivots_at}
 use Rattle.words.specs.WordList.{words_to}
 use Rattle.words.specs.ReducedWords.{words_generators}

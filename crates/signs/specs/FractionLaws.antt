@@ -15,7 +15,7 @@ use Rattle.regular.specs.Words.{Word, Generated, Independent, total, Fraction}
 use Rattle.regular.specs.Columns.{plan_of, run_of, Standard}
 use Rattle.standard.specs.Form.{StandardFor}
 use Rattle.standard.specs.Total.{total_next, total_none}
-use Rattle.words.specs.FromWords.{words_standard}
+use Rattle.words.proofs.FromWords.{words_standard}
 use Rattle.words.specs.Model.{pivots_at, word_columns}
 use Rattle.words.specs.Switches.{agree_trans}
 use Rattle.words.specs.Generators.{Generators}

@@ -28,7 +28,7 @@ use Rattle.standard.specs.Plans.{word_cancels, cancels_word}
 use Rattle.standard.specs.Runs.{total_lt, plan_cols}
 use Rattle.standard.specs.Units.{spread, units_at}
 use Rattle.words.specs.Model.{word_columns, pivots_at, free_before, reduced, last_of}
-use Rattle.words.specs.ReducedWords.{words_columns_words}
+use Rattle.words.proofs.ReducedWords.{words_columns_words}
 use Rattle.words.specs.Standards.{form_standard}
 use Rattle.words.specs.Switches.{pattern_agree, agree_trans}
 use Rattle.words.specs.WordList.{words_to}

@@ -15,7 +15,7 @@ use Rattle.regular.specs.Words.{Generated, Fraction, SignedWords, total}
 use Rattle.standard.specs.Form.{units_before}
 use Rattle.standard.specs.Units.{spread, units_at}
 use Rattle.words.specs.Model.{word_columns, pivots_at, free_before, reduced, last_of}
-use Rattle.words.specs.ReducedWords.{words_columns_words}
+use Rattle.words.proofs.ReducedWords.{words_columns_words}
 use Rattle.words.specs.WordList.{words_to}
 use Rattle.counts.specs.GivenWords.{WordsGiven}
 use Rattle.signs.specs.SignLaws.{no_all_high, fraction_words}

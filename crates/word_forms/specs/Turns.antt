@@ -11,7 +11,8 @@ use Rattle.standard.specs.Finding.{StandardFound, is_found}
 use Rattle.standard.specs.Total.{total_cols}
 use Rattle.words.specs.FromWords.{wc_at, pivots_words}
 use Rattle.words.specs.Model.{reduced, last_of, free_before, word_columns, Pivots}
-use Rattle.words.specs.Pivots.{last_is, reduced_lt, pivots_more, empty_word}
+use Rattle.words.specs.Pivots.{last_is}
+use Rattle.words.proofs.Pivots.{reduced_lt, pivots_more, empty_word}
 use Rattle.words.specs.Standards.{standard_cols}
 
 -- the reduction, letter by letter

@@ -14,7 +14,7 @@ use Rattle.std.proofs.lemmas.List.{get_or_at}
 use Rattle.gf2.specs.Digits.{bit, odd, pick}
 use Rattle.gf2.specs.Parity.{odd_lin_l, odd_lt, odd_zero_l, odd_shift, odd_mod, odd_zero_r}
 use Rattle.regular.specs.Columns.{run_of}
-use Rattle.regular.specs.Words.{total, Generated, Independent}
+use Rattle.regular.specs.Words.{total, Generated}
 use Rattle.standard.specs.Basics.{ColumnFits, fits_keep, fits_fresh}
 use Rattle.standard.specs.FromTable.{run_is}
 use Rattle.standard.specs.Coordinates.{coord_lt}
@@ -22,8 +22,8 @@ use Rattle.standard.specs.Model.{coord_of, choose}
 use Rattle.standard.specs.Form.{units_before, StandardForm, StandardFor}
 use Rattle.standard.specs.Runs.{run_lt, total_lt, odd_total}
 use Rattle.standard.specs.Total.{InSpan, total_cols, total_low, total_none, total_next, total_more}
-use Rattle.words.specs.Model.{free_before, free_at, word_columns, pivots_at, Pivots}
-use Rattle.words.specs.Pivots.{last_bit, last_lt, Lasts, eliminates}
+use Rattle.words.specs.Model.{free_before, free_at, word_columns, Pivots}
+use Rattle.words.specs.Pivots.{last_bit, last_lt, Lasts}
 
 -- the columns as a list
 wc_length : (piv : List ℕ) (n : ℕ) → length (word_columns piv n) ≡ n
@@ -218,10 +218,6 @@ pivots_words n g ws piv hg P =
             });
       };
     }
-
-pub words_standard : (n g : ℕ) (ws : List ℕ) → n ≤ 16 → g ≤ n → ((i : ℕ) → i < g → get_or ws i 0 < 2 ^ n) → Independent g ws
-    → StandardFor n (n - g) (Generated n g ws) (word_columns (pivots_at ws n g) n)
-words_standard n g ws hn hg hw ind = pivots_words n g ws (pivots_at ws n g) hg (eliminates n g ws hn hw ind g (omega arith))
 
 -- the column of factor f from those before it
 pub wc_at : (n : ℕ) (piv : List ℕ) (f : ℕ) → f < n

@@ -1,6 +1,6 @@
 -- The words of standard columns are the reduced words of the plan, and generate all its words: each word is a sum of some of them, in one way.
 -- Words to columns to words gives the reduced words of the same plan. That a plan has one reduced list is proved in ReducedUnique.
-use Rattle.std.specs.Prelude.{◌≡◌, refl, ◌≢◌, List, ℕ, ◌+◌, ◌-◌, ◌%◌, ◌^◌, ◌≤◌, ◌<◌, ◌/◌, eqb, length, get_or}
+use Rattle.std.specs.Prelude.{◌≡◌, refl, ◌≢◌, List, ℕ, ◌+◌, ◌-◌, ◌%◌, ◌^◌, ◌<◌, ◌/◌, eqb, length, get_or}
 use Rattle.std.proofs.Common.{sym, ap, ap₂, ◌∙◌, subst, arith, eq-eqb, ne_eqb, pow_pos}
 use Rattle.std.proofs.Math.Logic.{by_cases}
 use Rattle.std.proofs.Math.Decide.{ℕ_discrete, dec_lt}
@@ -18,9 +18,8 @@ use Rattle.standard.specs.Plans.{word_cancels, cancels_word}
 use Rattle.standard.specs.Units.{standard_below}
 use Rattle.standard.specs.Runs.{run_lt, run_bit, run_zero, total_lt}
 use Rattle.standard.specs.Total.{total_xor, total_none}
-use Rattle.words.specs.Model.{word_columns, pivots_at, last_of}
+use Rattle.words.specs.Model.{last_of}
 use Rattle.words.specs.Pivots.{last_bit, last_is}
-use Rattle.words.specs.FromWords.{words_standard}
 use Rattle.words.specs.ToWords.{word_at, words_of, word_last, words_into, basic_last_of_none, other_last_of_one}
 use Rattle.words.specs.Generators.{Generators}
 use Rattle.words.specs.Letters.{last_unique, letter_one, total_cancels}
@@ -186,11 +185,3 @@ module _ (n m : ℕ) (s : Runs) (a : List ℕ) (st : StandardFor n m s a) where
       ),
     );
   }
-
--- words to columns to words: the reduced words of the plan that the words generate
-pub words_columns_words : (n g : ℕ) (vs : List ℕ) → n ≤ 16 → g ≤ n → ((i : ℕ) → i < g → get_or vs i 0 < 2 ^ n) → Independent g vs
-    → Reduced n g (Generated n g vs) (words_to (word_columns (pivots_at vs n g) n) n)
-words_columns_words n g vs hn hg hw ind =
-    let a = word_columns (pivots_at vs n g) n in
-    let e : n - (n - g) ≡ g = omega arith in
-    subst (λ (k : ℕ). Reduced n k (Generated n g vs) (words_to a n)) e (reduced_words_lem n (n - g) (Generated n g vs) a (words_standard n g vs hn hg hw ind))

@@ -1,0 +1,3 @@
+pub mod Pivots
+pub mod FromWords
+pub mod ReducedWords
