@@ -1,6 +1,6 @@
 -- Instances of what calls answer: each kind of answer accepted and refused, on the plans of ABC and ABCD.
 -- In the order of the definitions: a value, a lent list, the better of two, comparisons, checks of a witness.
-use Rattle.std.specs.Prelude.{◌≡◌, refl, List, [], ◌∷◌, ℕ, ◌-◌, ◌≤◌, ◌<◌, length, get_or}
+use Rattle.std.specs.Prelude.{◌≡◌, refl, List, [], ◌∷◌, ℕ, ◌-◌, ◌≤◌, ◌<◌, get_or}
 use Rattle.std.proofs.Common.{subst, inl, arith}
 use Rattle.std.specs.Borrow.{Bor}
 use Rattle.gf2.specs.Counts.{Count}
@@ -21,13 +21,12 @@ use Rattle.signs.specs.SignLaws.{fraction_plus}
 use Rattle.isomorphism_laws.specs.Moving.{carries_names}
 use Rattle.isomorphism_laws.specs.SamePlan.{same_agree}
 use Rattle.whiteboard.specs.ListTests.{among, not_among}
-use Rattle.whiteboard.specs.PlanInstances.{runs_abc, disguised, witness_disguised, pattern_abc, pattern_abcd, resolution_full}
+use Rattle.whiteboard.specs.PlanInstances.{runs_abc, disguised, witness_disguised, pattern_abc, pattern_abcd}
 use Rattle.whiteboard.specs.PlanInstances.{less_abcd, not_less, different_abc_abcd, bytes_plan, equal_abc, equal_abcd}
 use Rattle.whiteboard.specs.RefusalInstances.{refusal_7, refusal_8, refused_runs, accepted_disguised, accepted_columns}
-use Rattle.whiteboard.specs.RefusalInstances.{accepted_abcd, accepted_words, accepted_word_abcd, accepted_no_words, accepted_runs, five_abc, five_abcd}
+use Rattle.whiteboard.specs.RefusalInstances.{accepted_abcd, accepted_words, accepted_word_abcd, accepted_runs, five_abc, five_abcd}
 use Rattle.whiteboard.specs.Samples.{abc, abcd, plan_abc, plan_abcd, words_abc}
 use Rattle.whiteboard.specs.Tests.{below, agree_at}
-use Rattle.whiteboard.specs.Whiteboard.{words_p, words_q, whiteboard}
 
 -- a plan that starts from its first run, and not from another
 pub start_disguised : (of_runs 4 1 disguised).start 3
@@ -42,13 +41,6 @@ gives_resolution = record {
   number = accepted_words;
   refused = λ h. absurd (omega arith);
   result = λ e. resolution_agree 4 (Generated 4 1 (7 ∷ [])) (Fraction 4 1 (7 ∷ []) 0) (fraction_plus 4 1 (7 ∷ [])) 3 words_abc.resolution;
-}
-
-pub gives_full : ResolutionOf 3 (of_words 3 0 [] 0) 0 4
-gives_full = record {
-  number = accepted_no_words;
-  refused = λ h. absurd (omega arith);
-  result = λ e. resolution_agree 3 (Generated 3 0 []) (Fraction 3 0 [] 0) (fraction_plus 3 0 []) 4 resolution_full;
 }
 
 pub gives_refused : ResolutionOf 3 (of_words 3 1 (3 ∷ []) 0) 7 0
@@ -166,9 +158,6 @@ alike_first k h l = agree_at (λ i. get_or (0 ∷ 0 ∷ 1 ∷ 0 ∷ []) i 0) (λ
 
 pub differ_at : Differ 4 (plan_of 4 3 abc) (plan_of 4 3 abcd) 3
 differ_at = Differ.at 3 (0 ∷ 0 ∷ 1 ∷ 0 ∷ []) (0 ∷ 0 ∷ 0 ∷ 1 ∷ []) pattern_abc pattern_abcd (omega arith) (omega arith) alike_first (λ e. omega arith)
-
-pub differ_nowhere : Differ 9 (Generated 9 3 words_p) (Generated 9 3 words_q) 0
-differ_nowhere = whiteboard.1.1.1.1.1.1.1.1.1.0.length
 
 abbrev pub names_of_five : List ℕ
 names_of_five = 1 ∷ 2 ∷ 3 ∷ 0 ∷ 9 ∷ []

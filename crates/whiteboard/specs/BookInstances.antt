@@ -103,20 +103,9 @@ most_counted k f = omega (arith, count_fault 65535 k f)
 pub fault_many : CountFault 65536 4
 fault_many = CountFault.many (omega arith)
 
-judged_two : (plans : ℕ → Type 0) → ((k : ℕ) → plans k → ⊥) → Lowest (either plans (CountFault 2)) 0
+pub judged_two : (plans : ℕ → Type 0) → ((k : ℕ) → plans k → ⊥) → Lowest (either plans (CountFault 2)) 0
 judged_two plans none =
     lowest_then plans (CountFault 2) 0 (lowest_none plans none) (lowest_none (CountFault 2) (λ k f. omega (arith, count_fault 2 k f)))
-
-pub writes : WritesPlans 4 1 3 plans (replicate 27 9) (book ++ (9 ∷ [])) 0 26
-writes = record {
-  lowest = lowest_then (either (wanted_plans_faults 4 1 3 true plans) (CountFault 2)) (LentFault 26 (replicate 27 9)) 0
-      (judged_two (wanted_plans_faults 4 1 3 true plans) (plans_wanted true)) (lent_fits 26 (replicate 27 9) (omega arith));
-  refused = λ h. absurd (omega arith);
-  whole = λ e. refl;
-  book = λ e. book_4;
-  rest = refl;
-  size = refl;
-}
 
 pub writes_refused : WritesPlans 4 1 3 plans (9 ∷ 9 ∷ []) (9 ∷ 9 ∷ []) 8 0
 writes_refused = record {

@@ -20,7 +20,7 @@ use Rattle.standard.specs.Runs.{total_lt}
 use Rattle.standard.specs.Total.{total_unit}
 use Rattle.whiteboard.specs.PlanInstances.{size_4}
 use Rattle.whiteboard.specs.RefusalInstances.{size_none, size_3, mask_none}
-use Rattle.whiteboard.specs.SignInstances.{minus, three, standard_minus, not_all_high, allowed_c, barred_a}
+use Rattle.whiteboard.specs.SignInstances.{minus, three, barred_a}
 use Rattle.whiteboard.specs.Tests.{below, below_at}
 
 -- a mask has its low byte first
@@ -35,9 +35,6 @@ pub run_with : plan_with 3 2 three 4 4
 unfolding run_of odd ones ones_in
 run_with = (0, (omega arith, refl))
 
-pub not_run_with : plan_with 3 2 three 4 0 → ⊥
-not_run_with h = not_all_high (standard_minus.columns.plan.onto 4 h)
-
 -- a sign from bit G up; a mask at A, which is the last letter of no word; a mask where there must be none
 pub fault_sign : SignFault 2 4 5
 fault_sign = SignFault.past (omega arith)
@@ -47,9 +44,6 @@ no_sign_fault k (SignFault.past h) = omega arith
 
 pub fault_mask : MaskFault 3 minus 1 5
 fault_mask = MaskFault.barred barred_a
-
-pub no_mask_fault : (k : ℕ) → MaskFault 3 minus 4 k → ⊥
-no_mask_fault = mask_none 3 minus 4 allowed_c
 
 pub fault_switch : SwitchFault true 4 5
 fault_switch = SwitchFault.some refl (λ e. omega (arith, e))

@@ -32,7 +32,7 @@ use Rattle.words.proofs.ReducedWords.{words_columns_words}
 use Rattle.words.specs.Standards.{form_standard}
 use Rattle.words.specs.Switches.{pattern_agree, agree_trans}
 use Rattle.words.specs.WordList.{words_to}
-use Rattle.counts.specs.Aberration.{less_criterion, criterion_less}
+use Rattle.counts.specs.Aberration.{criterion_less}
 use Rattle.counts.specs.FullFactorials.{resolution_some}
 use Rattle.counts.specs.Patterns.{pattern_unique}
 use Rattle.counts.specs.ShortWords.{none_short}
@@ -43,9 +43,8 @@ use Rattle.smallest_laws.specs.Growth.{entry_equal}
 use Rattle.smallest_laws.specs.UnitForms.{rising_distinct}
 use Rattle.catalogue_laws.specs.Demand.{Whole, whole}
 use Rattle.whiteboard.specs.ListTests.{among, all, distinct, not_among, carried_witness, tabled_table}
-use Rattle.whiteboard.specs.Samples.{abc, abcd, plan_abc, plan_abcd, catalogue_4, words_abc, words_abcd, runs_abc_lem, printed_samples}
+use Rattle.whiteboard.specs.Samples.{abc, abcd, plan_abc, plan_abcd, catalogue_4, words_abc, words_abcd, runs_abc_lem}
 use Rattle.whiteboard.specs.Tests.{below, below_at, agree_at, only_zero_lem}
-use Rattle.whiteboard.specs.Whiteboard.{whiteboard}
 
 -- sizes: an ordinary one, the least, one of the largest
 pub size_4 : Size 4 1
@@ -270,15 +269,8 @@ sum_abc = refl
 pub resolution_abc : Resolution 4 (Generated 4 1 (7 ∷ [])) 3
 resolution_abc = words_abc.resolution
 
-pub resolution_full : Resolution 3 (Generated 3 0 []) 4
-resolution_full = whiteboard.1.1.1.0.resolution
-
 pub not_resolution_0 : Resolution 3 (Generated 3 0 []) 0 → ⊥
 not_resolution_0 h = omega (arith, resolution_some 3 (Generated 3 0 []) 0 h)
-
--- it meets R 5, which is above its resolution
-pub no_short_full : NoShort 3 5 (plan_of 3 3 (1 ∷ 2 ∷ 4 ∷ []))
-no_short_full = ((whiteboard.1.1.0 5 (omega arith) (omega arith)).sound 0 (omega arith)).long
 
 pub distances_abc : Distances 4 (plan_of 4 3 abc) 0 (1 ∷ 1 ∷ 3 ∷ 3 ∷ 0 ∷ [])
 distances_abc = runs_abc_lem.distances
@@ -316,21 +308,6 @@ not_better_before b =
 pub less_abcd : LessAberration 4 3 (Generated 4 1 (15 ∷ [])) (Generated 4 1 (7 ∷ []))
 less_abcd = record { p = 0 ∷ 0 ∷ 0 ∷ 1 ∷ []; q = 0 ∷ 0 ∷ 1 ∷ 0 ∷ []; of_t = words_abcd.pattern; of_s = words_abc.pattern; better = better_abcd }
 
-pub less_000 : LessAberration 7 5 (Generated 7 2 (39 ∷ 94 ∷ [])) (Generated 7 2 (39 ∷ 89 ∷ []))
-less_000 = record {
-  p = 0 ∷ 0 ∷ 0 ∷ 1 ∷ 2 ∷ 0 ∷ 0 ∷ [];
-  q = 0 ∷ 0 ∷ 0 ∷ 2 ∷ 0 ∷ 1 ∷ 0 ∷ [];
-  of_t = printed_samples.0.pattern;
-  of_s = printed_samples.1.0.pattern;
-  better = record {
-    at = 4;
-    from = omega arith;
-    to = omega arith;
-    before = λ l h k. let e : l ≡ 3 = omega arith in rw e refl;
-    fewer = omega arith;
-  };
-}
-
 pub not_less : LessAberration 4 3 (Generated 4 1 (7 ∷ [])) (Generated 4 1 (15 ∷ [])) → ⊥
 not_less l =
     let b = l.better in
@@ -344,12 +321,6 @@ not_less l =
 pub long_words : {n : ℕ} {s : Runs} (p : List ℕ) → Pattern n s (0 ∷ 0 ∷ p) → NoShort n 3 s
 long_words p pat =
     none_short pat 3 (λ l some most few. by_cases (ℕ_discrete l 1) (λ e. rw e refl) (λ ne. let e : l ≡ 2 = omega arith in rw e refl))
-
-pub criterion_000 : AberrationCriterion 7 (Generated 7 2 (39 ∷ 94 ∷ [])) (Generated 7 2 (39 ∷ 89 ∷ []))
-criterion_000 =
-    less_criterion
-    (long_words (0 ∷ 1 ∷ 2 ∷ 0 ∷ 0 ∷ []) printed_samples.0.pattern)
-    (long_words (0 ∷ 2 ∷ 0 ∷ 1 ∷ 0 ∷ []) printed_samples.1.0.pattern) less_000
 
 pub not_criterion : AberrationCriterion 4 (Generated 4 1 (7 ∷ [])) (Generated 4 1 (15 ∷ [])) → ⊥
 not_criterion c =

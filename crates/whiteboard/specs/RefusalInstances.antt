@@ -23,13 +23,12 @@ use Rattle.regular.specs.Smallest.{Equal, Entry}
 use Rattle.regular.specs.declared.Design.{Design}
 use Rattle.words.specs.Short.{repeat_gives_short}
 use Rattle.words.specs.Switches.{agree_refl}
-use Rattle.counts.specs.FullFactorials.{resolution_long}
 use Rattle.smallest_laws.specs.Growth.{entry_equal}
 use Rattle.counts.specs.GivenWords.{WordsGiven}
 use Rattle.whiteboard.specs.ListTests.{all, all_at}
 use Rattle.whiteboard.specs.PlanInstances.{size_4, runs_abc, whole_4, table_abc_lem, not_regular, short_abc, entry_abc, plan_abc_lem, plan_abcd_lem}
 use Rattle.whiteboard.specs.PlanInstances.{not_spans, record_abc, dependent_twice, allowed_none, long_words}
-use Rattle.whiteboard.specs.PlanInstances.{holds_abc, disguised, table_disguised, no_short_disguised, repeat_ab, resolution_full}
+use Rattle.whiteboard.specs.PlanInstances.{holds_abc, disguised, table_disguised, no_short_disguised, repeat_ab}
 use Rattle.whiteboard.specs.RowLaws.{is_given}
 use Rattle.whiteboard.specs.Samples.{abc, plan_abc, plan_abcd, fives, catalogue_5, words_abc, words_abcd}
 use Rattle.whiteboard.specs.Tests.{below, below_at, agree_at, only_zero_lem}
@@ -193,13 +192,6 @@ pub accepted_word_abcd : Lowest (words_faults 4 1 (15 ∷ []) 0) 0
 unfolding total below
 accepted_word_abcd =
     words_accepted 4 1 (15 ∷ []) 0 size_4 refl (is_given 4 1 (15 ∷ []) refl) (long_words (0 ∷ 1 ∷ []) words_abcd.pattern) (omega arith)
-
--- no words
-pub accepted_no_words : Lowest (words_faults 3 0 [] 0) 0
-unfolding total below
-accepted_no_words =
-    words_accepted 3 0 [] 0 (record { some = omega arith; most = omega arith; less = omega arith; few = omega arith }) refl (is_given 3 0 [] refl)
-    (resolution_long 3 (Generated 3 0 []) 3 4 resolution_full (omega arith)) (omega arith)
 
 pub runs_none : (n m : ℕ) (t : List ℕ) → Table n m t → NoShort n 3 (runs_of t) → (k : ℕ) → TableFault n m t k → ⊥
 runs_none n m t tab ns k (TableFault.count h) = h tab.count

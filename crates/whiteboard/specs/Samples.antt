@@ -80,24 +80,18 @@ unfolding ones ones_in odd run_of total reduced last_of pivots_at free_before wo
     short fits may branch listing beaten any_to compare reached vec present units_before
 small_pass = refl
 
-printed_pass : all_pass printed ≡ true
+pub printed_pass : all_pass printed ≡ true
 unfolding ones ones_in odd run_of total reduced last_of pivots_at free_before word_columns first_length tally product below those alike
     short fits may branch listing beaten any_to compare reached vec present units_before
 printed_pass = refl
 
-signed_pass : all_pass signed ≡ true
+pub signed_pass : all_pass signed ≡ true
 unfolding ones ones_in odd run_of total reduced last_of pivots_at free_before word_columns first_length tally product below those alike units_before
 signed_pass = refl
 
 -- so every row is true of the definitions
 pub samples : AllTrue small
 samples = table_true small small_pass
-
-pub printed_samples : AllTrue printed
-printed_samples = table_true printed printed_pass
-
-pub signed_samples : AllTrue signed
-signed_samples = table_true signed signed_pass
 
 -- the rows by their names
 pub catalogue_4 : Catalogue 4 3 3 2 (λ i. get_or (abc ∷ abcd ∷ []) i [])
@@ -114,9 +108,3 @@ runs_abc_lem = samples.1.1.1.0
 
 pub catalogue_5 : Catalogue 5 4 3 3 (λ i. get_or fives i [])
 catalogue_5 = samples.1.1.1.1.1.0 3 (omega arith) (omega arith)
-
-pub words_three : WordsRow 3 1 (Generated 3 1 (7 ∷ [])) (1 ∷ 2 ∷ 3 ∷ []) (0 ∷ 0 ∷ 1 ∷ []) 3
-words_three = signed_samples.1.1.1.1.0
-
-pub words_five : WordsRow 5 2 (Generated 5 2 (27 ∷ 28 ∷ [])) (1 ∷ 2 ∷ 3 ∷ 4 ∷ 7 ∷ []) (0 ∷ 0 ∷ 2 ∷ 1 ∷ 0 ∷ []) 3
-words_five = signed_samples.1.1.1.1.1.0

@@ -6,7 +6,7 @@ use Rattle.std.specs.Int.Bits.{bit_xor}
 use Rattle.std.specs.Int.Count.{ones, ones_in}
 use Rattle.gf2.specs.Digits.{bit, odd}
 use Rattle.gf2.specs.Parity.{odd_lin_r}
-use Rattle.regular.specs.Columns.{run_of, Basic, Allowed, Standard, ListedWith, RunTableWith, RunsOfPlan}
+use Rattle.regular.specs.Columns.{run_of, Basic, Allowed, Standard, ListedWith, RunTableWith}
 use Rattle.regular.specs.Given.{of_words}
 use Rattle.regular.specs.Runs.{Runs}
 use Rattle.regular.specs.Same.{Same}
@@ -19,14 +19,13 @@ use Rattle.words.proofs.ReducedWords.{words_columns_words}
 use Rattle.words.specs.WordList.{words_to}
 use Rattle.counts.specs.GivenWords.{WordsGiven}
 use Rattle.signs.specs.SignLaws.{no_all_high, fraction_words}
-use Rattle.isomorphism_laws.specs.SamePlan.{same_sym, same_trans}
 use Rattle.catalogue_laws.specs.SignedPlans.{signed_reaches_one}
 use Rattle.whiteboard.specs.PlanInstances.{past_front, sized_4, long_words}
 use Rattle.whiteboard.specs.RowLaws.{is_given}
-use Rattle.whiteboard.specs.Samples.{abc, abcd, catalogue_4, words_abc, signed_samples}
+use Rattle.whiteboard.specs.Samples.{abc, abcd, catalogue_4, words_abc}
 use Rattle.whiteboard.specs.Switching.{signs_same}
 use Rattle.whiteboard.specs.Tests.{below, agree_at}
-use Rattle.whiteboard.specs.Whiteboard.{words_p, words_q, whiteboard}
+use Rattle.whiteboard.specs.Whiteboard.{words_p, words_q}
 
 abbrev pub minus : Runs
 minus = Fraction 3 1 (7 ∷ []) 1
@@ -47,13 +46,6 @@ run_a : minus 1
 unfolding odd ones ones_in below
 run_a = record { within = omega arith; product = agree_at (λ i. odd 1 (get_or (7 ∷ []) i 0)) (λ i. bit i 1) 1 refl }
 
--- C is the last letter of ABC; A is that of no word, as both its levels are there
-pub standard_minus : Standard 3 2 minus three 4
-standard_minus = signed_samples.0.columns
-
-pub allowed_c : Allowed 3 minus 4
-allowed_c = standard_minus.allowed
-
 basic_minus_a : Basic 3 minus 0
 unfolding odd ones ones_in
 basic_minus_a w word last =
@@ -68,23 +60,12 @@ pub not_standard : Standard 3 2 minus three 0 → ⊥
 unfolding run_of odd ones ones_in
 not_standard k = not_all_high (k.columns.plan.onto 0 (0, (omega arith, refl)))
 
--- it starts from the run that is its mask, not from another
-pub start_minus : (of_words 3 1 (7 ∷ []) 1).start 4
-start_minus = (run_minus, allowed_c)
-
 pub not_start_minus : (of_words 3 1 (7 ∷ []) 1).start 1 → ⊥
 not_start_minus k = barred_a k.1
-
--- its runs in a list, and in 128 places
-pub listed_minus : ListedWith 3 2 three 4 (4 ∷ 1 ∷ 2 ∷ 7 ∷ [])
-listed_minus = signed_samples.0.table
 
 pub not_listed : ListedWith 3 2 three 4 (0 ∷ 5 ∷ 6 ∷ 3 ∷ []) → ⊥
 unfolding run_of odd ones ones_in
 not_listed k = omega (arith, k 0 (omega arith))
-
-pub runs_of_minus : RunsOfPlan 3 2 ListedWith minus (4 ∷ 1 ∷ 2 ∷ 7 ∷ [])
-runs_of_minus = record { columns = three; mask = 4; standard = standard_minus; table = listed_minus }
 
 pub run_table_minus : RunTableWith 3 2 three 4 ((4 ∷ 1 ∷ 2 ∷ 7 ∷ []) ++ replicate 124 0)
 unfolding below run_of odd ones ones_in
@@ -104,12 +85,6 @@ five_columns = 1 ∷ 2 ∷ 3 ∷ 4 ∷ 7 ∷ []
 
 abbrev pub first_minus : Runs
 first_minus = Fraction 5 2 (27 ∷ 28 ∷ []) 1
-
-pub standard_first : Standard 5 3 first_minus five_columns 20
-standard_first = signed_samples.1.1.0.columns
-
-pub standard_second : Standard 5 3 (Fraction 5 2 (27 ∷ 28 ∷ []) 2) five_columns 4
-standard_second = signed_samples.1.1.1.0.columns
 
 -- the reduced words are ABC and ABDE, with their own signs
 abbrev pub reduced_words : List ℕ
@@ -181,12 +156,3 @@ signs_p = signs_same 9 3 words_p given_p.few given_p.less given_p.within given_p
 
 pub signs_q : (signs : ℕ) → Same 9 (Fraction 9 3 words_q signs) (Generated 9 3 words_q)
 signs_q = signs_same 9 3 words_q given_q.few given_q.less given_q.within given_q.independent
-
--- and so different from each other
-pub signs_different : (a b : ℕ) → Same 9 (Fraction 9 3 words_p a) (Fraction 9 3 words_q b) → ⊥
-signs_different a b k =
-    let p = Generated 9 3 words_p in
-    let q = Generated 9 3 words_q in
-    whiteboard.1.1.1.1.1.1.1.1.1.0.different
-    (same_trans 9 p (Fraction 9 3 words_p a) q (same_sym 9 (Fraction 9 3 words_p a) p (λ x h. h.within) (signs_p a))
-    (same_trans 9 (Fraction 9 3 words_p a) (Fraction 9 3 words_q b) q k (signs_q b)))

@@ -13,8 +13,7 @@ use Rattle.smallest_laws.specs.Presence.{present}
 use Rattle.smallest_laws.specs.Search.{any_to, compare, reached, beaten}
 use Rattle.catalogue_laws.specs.Model.{short, fits, may, branch, listing}
 use Rattle.whiteboard.specs.Products.{product}
-use Rattle.whiteboard.specs.Rows.{Row, AllTrue, all_pass}
-use Rattle.whiteboard.specs.RowLaws.{table_true}
+use Rattle.whiteboard.specs.Rows.{Row, all_pass}
 use Rattle.whiteboard.specs.Tests.{below, those, alike}
 
 -- ABCD, CDEF, ACEGHJ
@@ -57,11 +56,7 @@ table =
     ∷ []
 
 -- every row passes its tests, by computation
-every_row_passes : all_pass table ≡ true
+pub every_row_passes : all_pass table ≡ true
 unfolding ones ones_in odd run_of total reduced last_of pivots_at free_before word_columns first_length tally product below those alike
     short fits may branch listing beaten any_to compare reached vec present units_before
 every_row_passes = refl
-
--- every row of the table is true of the definitions
-pub whiteboard : AllTrue table
-whiteboard = table_true table every_row_passes

@@ -1,0 +1,10 @@
+pub mod Samples
+pub mod AnswerInstances
+pub mod MaskInstances
+pub mod SignInstances
+pub mod MaskedAnswers
+pub mod Whiteboard
+pub mod BookInstances
+pub mod RefusalInstances
+pub mod PlanInstances
+pub mod FormInstances
