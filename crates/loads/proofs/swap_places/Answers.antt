@@ -16,4 +16,4 @@ pub returns : goal.returns
 returns c =
     let l = c.loop-i in
     let a = c.args in
-    left_none a.n a.state a.columns l.i l.state l.columns (omega arith) l.invariant.2
+    left_none a.n a.before.state a.before.columns l.i l.state l.columns (omega arith) l.invariant.2
