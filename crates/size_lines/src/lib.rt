@@ -76,7 +76,7 @@ fn number(line: &[u8], p: usize) -> Numeral
 
 // No size.
 fn none() -> LineSize
-    ensures { result ≡ record { ok = false; n = 0; g = 0; result = 0 } }
+    ensures { result ≡ record { ok = false; n = 0; g = 0; r = 0 } }
 {
     LineSize {
         ok: false,

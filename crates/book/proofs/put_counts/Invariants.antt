@@ -1,5 +1,5 @@
 -- `book::put_counts` meets its contract: before each turn the counts of the lengths up to i stand (`CountsPut`); what is left of them falls. Assumes nothing.
-use Prim.Native.Nat.{◌-◌}
+use Rattle.std.proofs.Common.{◌-◌}
 use Rattle.book.specs.PutLaws.{CountsPut}
 use Rattle.book.proofs.put_counts.Given as goal
 

@@ -1,6 +1,6 @@
 -- `book::put_plans` meets its contract: before each turn the entries of the first i plans stand (`Written`); what is left of the plans falls. Assumes
 -- nothing.
-use Prim.Native.Nat.{◌-◌, ◌≤◌}
+use Rattle.std.proofs.Common.{◌-◌, ◌≤◌}
 use Rattle.book.specs.Writing.{Written, plan_entry}
 use Rattle.book.proofs.put_plans.Given as goal
 

@@ -1,5 +1,5 @@
 -- `smallest_calls::form_each` meets its contract: the first i plans have their forms; the measure is what is left of the plans. Assumes nothing.
-use Prim.Native.Nat.{◌-◌, ◌≤◌}
+use Rattle.std.proofs.Common.{◌-◌, ◌≤◌}
 use Rattle.smallest_calls.specs.Each.{ReducedTo}
 use Rattle.smallest_calls.proofs.form_each.Given as goal
 
