@@ -7,5 +7,5 @@ pub returns : goal.returns
 returns c =
     let d = c.decimal-k.ensures in
     let t = c.add_text.ensures in
-    let few = few_digits c.args.x _ c.ranges.x.fits d.len.0 in
-    (adds_is (d.1.1 ∙ digits_are 20 _ _ d.1.0 few) t, omega (arith, t.place, d.0.1, few))
+    let few = few_digits c.args.x _ c.ranges.x.fits d.len in
+    (adds_is (d.digits ∙ digits_are 20 _ _ d.len few) t, omega (arith, t.place, few))
