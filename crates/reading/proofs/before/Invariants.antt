@@ -1,7 +1,5 @@
 -- `reading::before` meets its contract: the columns before f agree; the measure is what is left of the n. Assumes nothing.
-use Prim.Native.Nat.{ℕ, ◌-◌, ◌≤◌, ◌<◌}
-use mathlib.Core.Path.{◌≡◌}
-use lib.ListN.{get_or}
+use Rattle.std.proofs.Common.{ℕ, ◌-◌, ◌≤◌, ◌<◌, ◌≡◌, get_or}
 use Rattle.reading.proofs.before.Given as goal
 
 abbrev pub invariant-loop-f : goal.invariant-loop-f

@@ -1,6 +1,6 @@
 -- `reading::entries_number` meets its contract: whatever the entries from i on answer is the answer, and the tables are
 -- those of the entry before; the measure is how many are left. Assumes nothing.
-use Prim.Native.Nat.{◌-◌}
+use Rattle.std.proofs.Common.{◌-◌}
 use Rattle.entry_test.specs.Testing.{KeptTables}
 use Rattle.reading.specs.Answers.{earlier_columns}
 use Rattle.reading.specs.Entries.{EntriesFrom}

@@ -1,6 +1,5 @@
 -- `reading::has_counts` meets its contract: the counts before i stand; the measure is what is left of the n. Assumes nothing.
-use Prim.Native.Nat.{◌+◌, ◌*◌, ◌-◌, ◌≤◌}
-use mathlib.Core.Path.{◌≡◌}
+use Rattle.std.proofs.Common.{◌+◌, ◌*◌, ◌-◌, ◌≤◌, ◌≡◌}
 use Rattle.reading.specs.Answers.{CountsAt}
 use Rattle.reading.proofs.has_counts.Given as goal
 

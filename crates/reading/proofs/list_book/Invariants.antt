@@ -1,5 +1,5 @@
 -- `reading::list_book` meets its contract: the entries before i stand in the list; the measure is how many are left. Assumes nothing.
-use Prim.Native.Nat.{◌-◌}
+use Rattle.std.proofs.Common.{◌-◌}
 use Rattle.reading.specs.Filling.{FilledPlans}
 use Rattle.reading.proofs.list_book.Given as goal
 
