@@ -98,11 +98,10 @@ fn every_definition_and_law_is_used_or_named_on_a_page() {
         blocks.iter().enumerate().filter(|(_, (path, _))| path.extension().is_some_and(|end| end == "antt") && !stands_alone(path))
     {
         let own = block.iter().take_while(|line| line.trim() != "where");
-        let names = own.filter_map(|line| declared(line).map(|name| (line, name)));
-        for name in names.filter(|(line, name)| !asked(path, line, name)).map(|(_, name)| name) {
+        for (line, name) in own.filter_map(|line| declared(line).map(|name| (line, name))) {
             seen += 1;
             let elsewhere = places.get(name).is_some_and(|found| found.iter().any(|&place| place != at));
-            if !elsewhere && !named.contains(name) {
+            if !elsewhere && !asked(path, line, name) && !named.contains(name) {
                 dead.push(format!("{name} in {}", path.display()));
             }
         }
