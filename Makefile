@@ -10,21 +10,23 @@ DESTDIR ?=
 INSTALL ?= install
 
 version := $(shell sed -n 's/^\#define PLANNER_VERSION "\(.*\)"$$/\1/p' include/planner.h)
-sources := crates.txt $(shell find crates -type f)
-library := target/staticlib/libplanner.a
-program := target/bin/plans
+sources := crates.txt $(shell find crates -type f -not -path '*/out/*')
+library := crates/planner/out/libplanner.a
+program := crates/plans/out/plans
 installed := $(DESTDIR)$(PREFIX)
 
-.PHONY: all install uninstall
+.PHONY: all library install uninstall
 
 all: $(library) $(program)
 
+library: $(library)
+
 $(library): $(sources)
-	rt staticlib planner
+	cd crates/planner && rt lib
 	touch $@
 
 $(program): $(sources)
-	rt check plans
+	cd crates/plans && rt run < /dev/null > /dev/null
 	touch $@
 
 install: all

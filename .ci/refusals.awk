@@ -1,21 +1,24 @@
 # Reads the log of a must-fail edit. A line for each function that was refused and for each law that an error names, its fields between tabs:
-#   name, account, need, quote
+#   name, account, goal, quote
 # account: 'own' if a fact of it no longer holds ('law' for a law); 'callee' if nothing of its own fails and it calls a function that is not proved; 'place' if
-# its proof file lost a place, so that the proof rather than a fact fails, or a law cannot be read. A proof rests on the contracts of the functions called,
-# not on their code: what fails in it is its own, also where a function that it calls is refused too. In a proof by hand every step of the walk names the code
-# that it walks: an error in a step is a lost place whatever it says, and only an error in a law beside the walk is one of a fact.
-# need: what the first error in its proof file names. quote: what that error says, in its own words, shortened:
+# its proof files lost a place, so that the proof rather than a fact fails, or a law cannot be read. A proof rests on the contracts of the functions called,
+# not on their code: what fails in it is its own, also where a function that it calls is refused too. A goal for which no file has an answer and that the
+# prover does not prove is a fact, unless the files lost a place: a goal is named after the conditions on the way to it, so an answer may be lost by its name.
+# It is one in any case where the facts known there allow values at which the goal is false. In a proof by hand (Proof.antt) every step of the walk
+# names the code that it walks: an error in a step is a lost place whatever it says, and only an error in a law beside the walk is one of a fact.
+# goal: what the first error in its proof files names, or else the first goal that is not proved. quote: what that error says, in its own words, shortened:
 #   - of two types, sides or indices that differ, the statement of where they do, as computed if the error has that, else as printed;
-#   - of numbers at which a need fails, the first three; of a goal that no proof was found of, that statement;
+#   - of numbers at which a goal fails, the first three; of a goal that no proof was found of, that statement, and the first value at which it is false,
+#     if the prover names one;
 #   - in each term modules and the way to a name are left out, and it ends in '..' after 60 bytes, at a blank; a term in the prover's own words is its head and '..'.
 
 function short(s) {
     s = " " s
-    gsub(/([^][ ().{},`]+\.)+/, "", s)                       # modules before a name
-    gsub(/ \.(before|args|loop|given|now)/, "", s)         # the way to a name
-    gsub(/ c \./, " ", s)
-    gsub(/\(c \./, "(", s)
-    sub(/^ \.?/, "", s)
+    gsub(/\. /, "\001 ", s)                                  # the point of a λ
+    gsub(/\.now/, "", s)                                     # what stands behind a reference
+    gsub(/([^][ ().{},`]+\.)+/, "", s)                       # modules before a name, the way to a name
+    gsub(/\001/, ".", s)
+    sub(/^ +/, "", s)
     if (s ~ /^\([A-Za-z0-9_]+\)$/) s = substr(s, 2, length(s) - 2)
     gsub(/\|/, "\\|", s)
     return s
@@ -97,8 +100,10 @@ function quote(text,    part) {
     part = after(text, "computed as far as they go, ")
     if (part == "") part = after(text, "as printed, ")
     if (part == "") part = text
+    sub(/ (one side|both [a-z]+)( \([a-z]+\))? (is|are) shown computed.*/, "", part)
     if (index(part, "the two indices are")) return terms(upto(part, "(the expected type's)"))
     if (index(part, "(found)")) return terms(upto(part, "(found)"))
+    if (index(part, "lands at index")) return terms(upto(from(part, "lands at index"), "has `") upto(after(part, "` has `"), "`"))
     if (index(part, "but this has type `")) return terms(upto(part, "but this has type `") upto(after(part, "but this has type `"), "`"))
     sub(/\. [A-Z].*/, "", part)
     return terms(part)
@@ -107,7 +112,7 @@ function quote(text,    part) {
 # Whether an error says that a fact does not hold.
 function of_a_fact(need, text) {
     if (need ~ /-spec$/) return 0
-    return text ~ /the goal does not follow|no proof of|the two (types|sides) (first )?differ|the two indices are|but this has type|are absurd/
+    return text ~ /the goal does not follow|no proof of|the two (types|sides) (first )?differ|the two indices are|but this has type|lands at index|are absurd/
 }
 
 # Whether what an error names is a step of a walk by hand: the file names the code that it walks, and the statement speaks of the program logic.
@@ -125,59 +130,125 @@ function walk_step(file, name,    line, lines, by_hand, inside, said) {
     return !lines || by_hand && (said == "" || said ~ /𝓤|Sq |Stays |statement/)
 }
 
+# The name between the first two backticks.
+function quoted(s) {
+    sub(/^[^`]*`/, "", s)
+    sub(/`.*/, "", s)
+    return s
+}
+
+# The function whose proof file this is, in the folder proofs/FUNCTION: of a cycle, in a folder proofs/+CYCLE, the one with whose name the goal begins.
+function proved_by(file, need,    name) {
+    name = file
+    sub(/\/[A-Za-z]+\.antt$/, "", name)
+    sub(/.*\//, "", name)
+    if (name !~ /^\+/) return name
+    sub(/^(invariant|decreases)-/, "", need)
+    sub(/-.*/, "", need)
+    return need
+}
+
 # Takes up the error that was read last: its first line and the lines after it.
-function take_error(    place, need, text, name, names, k) {
+function take_error(    place, need, text, name) {
     if (error == "") return
     text = error
     error = ""
     place = text
     sub(/: error: .*/, "", place)
     sub(/^.*: error: /, "", text)
+    if (text ~ /was not admitted|(was|were) not checked/) return
     need = text
     sub(/^`/, "", need)
     sub(/`.*/, "", need)
     sub(/^`[^`]*`: /, "", text)
-    if (text ~ /was not admitted/) return
     sub(/:[0-9]+:[0-9]+$/, "", place)
-    if (place !~ /\/proofs\/.*\/Proof\.antt$/) {
+    if (place !~ /\/proofs\/.*\/(Answers|Invariants|Proof)\.antt$/) {
         if (!of_a_fact(need, text)) unread[need] = 1
         if (!(need in laws)) { laws[need] = quote(text); law[++law_count] = need }
         return
     }
-    name = place
-    sub(/\/Proof\.antt$/, "", name)
-    sub(/.*\//, "", name)
-    for (k = split(name, names, "+"); k > 1; k--) if (index(need, names[k] "-") == 1) break   # several functions in a cycle: the need names one
-    name = names[k]
-    if (!of_a_fact(need, text) || walk_step(place, need)) lost[name] = need
+    name = proved_by(place, need)
+    if (!of_a_fact(need, text) || place ~ /\/Proof\.antt$/ && walk_step(place, need)) lost[name] = need
     if (!(name in first)) {
         first[name] = need
         why[name] = quote(text)
     }
 }
 
+# Takes up the note that was read last. Of a goal that is not proved it stands before the line of its function; what the goal states, and values at which
+# it is false, come after all functions.
+function take_note(    text, goal, of) {
+    if (note == "") return
+    text = note
+    note = ""
+    gsub(/ +/, " ", text)
+    if (text ~ /^note: src\/[^ ]*: it is not proved that /) {
+        goal = text
+        sub(/`\).*/, "", goal)
+        sub(/.*\(`/, "", goal)
+        if (!open_count++) open_first = goal
+        if (open_false == "" && text ~ /allow values at which this goal is false/) open_false = goal
+        return
+    }
+    goal = quoted(text)
+    of = text
+    sub(/^note: `[^`]*` of /, "", of)
+    if (of == text) return
+    sub(/\.antt .*/, ".antt", of)
+    of = proved_by(of, goal)
+    if (text ~ /\.antt must prove: /) {
+        sub(/^.*\.antt must prove: /, "", text)
+        sub(/ names you can use, by step:.*/, "", text)
+        if (!((of, goal) in states)) states[of, goal] = text
+    } else if (text ~ /\.antt may be false: the known facts allow /) {
+        sub(/^.*the known facts allow /, "", text)
+        sub(/: help: .*/, "", text)
+        if (!((of, goal) in allowed)) allowed[of, goal] = text
+    }
+}
+
+# What is said of a goal that no answer and no search proves.
+function unproved(name, goal,    said, part, count, k) {
+    said = (name, goal) in states ? "no proof of " term(states[name, goal]) : "no proof"
+    if (!((name, goal) in allowed)) return said
+    count = split(allowed[name, goal], part, "`")
+    for (k = 2; k + 2 <= count; k += 4) {
+        if (!own_words(short(part[k])) && !own_words(short(part[k + 2]))) return said ", false at " term(part[k]) " = " term(part[k + 2])
+    }
+    return said
+}
+
 /^  / { if (error != "") error = error " " $0; else if (note != "") note = note " " $0; next }
-{ take_error() }
+{ take_error(); take_note() }
 /: error: / { error = $0; next }
-/^note: what antt said of a `search`/ { if (note !~ /no proof of/) note = $0; next }
+/^note: / { note = $0; next }
 /^fn [^ ]*: (not proved|no proof)/ {
     name = $2
     sub(/:$/, "", name)
     bare = name
     sub(/.*::/, "", bare)
-    account = "own"
-    if ($0 ~ /: no proof: /) {
-        if ($0 !~ /does not close/) account = $0 ~ /it calls/ ? "callee" : "place"
-        first[bare] = upto(after($0, "does not close `"), "`")
-        sub(/`$/, "", first[bare])
-        why[bare] = quote(note)
-    }
-    else if (!(bare in first)) account = "callee"            # nothing of its own fails: a function that it calls, or another of its cycle, is not proved
-    else if (bare in lost) account = "place"
-    print name "\t" account "\t" first[bare] "\t" why[bare]
-    note = ""
+    refused[++refused_count] = name
+    if (bare in lost || bare in first) {
+        account[bare] = bare in lost ? "place" : "own"
+        if (bare in lost && open_false != "") { account[bare] = "own"; open_goal[bare] = open_false }
+    } else if (open_count) {
+        account[bare] = "own"
+        open_goal[bare] = open_first
+    } else account[bare] = $0 ~ /: not proved|it calls/ ? "callee" : "place"   # nothing of its own fails: a function that it calls, or another of its cycle
+    open_count = 0
+    open_first = open_false = ""
+    next
 }
+/^fn / { open_count = 0; open_first = open_false = "" }
 END {
     take_error()
+    take_note()
+    for (k = 1; k <= refused_count; k++) {
+        name = refused[k]
+        bare = name
+        sub(/.*::/, "", bare)
+        if (bare in open_goal) { first[bare] = open_goal[bare]; why[bare] = unproved(bare, open_goal[bare]) }
+        print name "\t" account[bare] "\t" first[bare] "\t" why[bare]
+    }
     for (k = 1; k <= law_count; k++) print law[k] "\t" (law[k] in unread ? "place" : "law") "\t" law[k] "\t" laws[law[k]]
 }

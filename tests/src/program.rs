@@ -20,8 +20,8 @@ pub const NOT_A_SIZE: &str = "not a size\n";
 
 /// A built program. Fails where there is none.
 pub(crate) fn built(name: &str) -> PathBuf {
-    let path = PathBuf::from(format!("{}/../target/bin/{name}", env!("CARGO_MANIFEST_DIR")));
-    assert!(path.is_file(), "the program is missing: no {}; `rt check {name}` proves and builds it", path.display());
+    let path = PathBuf::from(format!("{}/../crates/{name}/out/{name}", env!("CARGO_MANIFEST_DIR")));
+    assert!(path.is_file(), "the program is missing: no {}; `rt run` in crates/{name} proves and builds it", path.display());
     path
 }
 

@@ -6,13 +6,15 @@ use std::path::{Path, PathBuf};
 
 use plan_tests::repository::{read, root};
 
-/// Every file below crates/ with one of these endings.
+/// Every file below crates/ with one of these endings, without those that rt has made.
 fn sources(endings: &[&str]) -> Vec<PathBuf> {
     fn below(folder: &Path, endings: &[&str], found: &mut Vec<PathBuf>) {
         for entry in std::fs::read_dir(folder).expect("a folder") {
             let path = entry.expect("an entry").path();
             if path.is_dir() {
-                below(&path, endings, found);
+                if !path.ends_with("out") {
+                    below(&path, endings, found);
+                }
             } else if path.extension().is_some_and(|end| endings.iter().any(|&ending| end == ending)) {
                 found.push(path);
             }
@@ -61,6 +63,12 @@ fn declared(line: &str) -> Option<&str> {
     (kind || parts.next() == Some(":")).then_some(name)
 }
 
+/// Whether a line is an answer to a goal, an invariant or a measure, which the checker asks for by that name, or the whole of a proof by hand.
+fn asked(path: &Path, line: &str, name: &str) -> bool {
+    let by_hand = path.ends_with("Proof.antt") && name.ends_with("spec");
+    by_hand || line.split_once(" : ").is_some_and(|(_, kind)| kind.trim().strip_prefix("goal.") == Some(name))
+}
+
 /// The names that the pages of the repository speak of.
 fn named() -> BTreeSet<String> {
     let pages = ["README.md", "docs/DEMANDS.md", "docs/DECISIONS.md"].map(|page| read(&root().join(page)));
@@ -90,10 +98,10 @@ fn every_definition_and_law_is_used_or_named_on_a_page() {
         blocks.iter().enumerate().filter(|(_, (path, _))| path.extension().is_some_and(|end| end == "antt") && !stands_alone(path))
     {
         let own = block.iter().take_while(|line| line.trim() != "where");
-        for name in own.filter_map(|line| declared(line)).filter(|name| !name.ends_with("-spec")) {
+        for (line, name) in own.filter_map(|line| declared(line).map(|name| (line, name))) {
             seen += 1;
             let elsewhere = places.get(name).is_some_and(|found| found.iter().any(|&place| place != at));
-            if !elsewhere && !named.contains(name) {
+            if !elsewhere && !asked(path, line, name) && !named.contains(name) {
                 dead.push(format!("{name} in {}", path.display()));
             }
         }
@@ -117,7 +125,7 @@ fn every_name_that_a_file_brings_in_stands_in_it() {
         let body: Vec<&str> = text.lines().filter(|line| !is_import(line)).map(bare).collect();
         let found: BTreeSet<&str> = body.iter().flat_map(|line| words(line)).collect();
         let stands = |name: &str| {
-            let infix = name.starts_with('_') && name.split('_').filter(|part| !part.is_empty()).all(|part| found.contains(part));
+            let infix = name.contains('◌') && name.split('◌').filter(|part| !part.is_empty()).all(|part| found.contains(part));
             found.contains(name) || infix || name == "[]" && body.iter().any(|line| line.contains("[]"))
         };
         for name in text.lines().filter(|line| is_import(line)).flat_map(|line| brought(line)) {

@@ -43,7 +43,8 @@ fn files(folder: &str, ending: &str) -> Vec<PathBuf> {
 /// The name that a line of a specification or of code declares.
 fn declared(line: &str) -> Option<&str> {
     let mut rest = line.trim_start();
-    for word in ["#[no_mangle] ", "abbrev ", "unfoldable ", "pub ", "extern \"C\" ", "record ", "data ", "fn ", "struct ", "enum "] {
+    for word in ["#[unsafe(no_mangle)] ", "abbrev ", "unfoldable ", "pub ", "extern \"C\" ", "record ", "data ", "fn ", "struct ", "enum "]
+    {
         rest = rest.strip_prefix(word).unwrap_or(rest);
     }
     rest.split([' ', '(', '<', ':', '{']).next().filter(|name| !name.is_empty())
@@ -68,7 +69,8 @@ fn types(krate: &str) -> BTreeSet<String> {
 /// The files of a folder of a crate, one after another.
 fn texts(krate: &str, folder: &str) -> String {
     let entries = fs::read_dir(root().join(format!("crates/{krate}/{folder}"))).into_iter().flatten();
-    entries.map(|entry| read(&entry.expect("a file").path()) + "\n").collect()
+    let paths = entries.map(|entry| entry.expect("an entry").path()).filter(|path| path.is_file());
+    paths.map(|path| read(&path) + "\n").collect()
 }
 
 #[test]
@@ -81,14 +83,13 @@ fn every_definition_has_a_line_of_the_readers_pass_and_every_instance_is_proved(
     let bare: Vec<&String> = rows.iter().filter(|row| names(&row[3]).next().is_none()).map(|row| &row[0]).collect();
     assert!(bare.is_empty(), "no instance of {bare:?}");
 
-    let specs: String = files("specs", "antt").iter().map(|path| read(path)).collect();
-    let folders = ["whiteboard", "instances"].map(|krate| fs::read_dir(root().join(format!("crates/{krate}/specs"))).expect("specs"));
-    let proved: String = folders.into_iter().flatten().map(|entry| read(&entry.expect("a file").path())).collect();
+    let laws: String = files("specs", "antt").iter().chain(&files("proofs", "antt")).map(|path| read(path)).collect();
+    let proved: String = ["whiteboard", "instances"].map(|krate| texts(krate, "specs") + &texts(krate, "proofs")).concat();
     let tested = read(&root().join("tests/tests/aberration.rs"));
     let stands = |text: &str, name: &str| text.contains(&format!("\npub {name} :")) || text.contains(&format!("\n  pub {name} :"));
     let missing: Vec<String> = named(3).into_iter().filter(|name| !stands(&proved, name)).collect();
     assert!(missing.is_empty(), "no instance {missing:?}");
-    let known: BTreeSet<&str> = specs.lines().filter_map(declared).collect();
+    let known: BTreeSet<&str> = laws.lines().filter_map(declared).collect();
     let unknown: Vec<String> = named(0)
         .union(&named(2))
         .filter(|name| !known.contains(name.as_str()) && !tested.contains(&format!("fn {name}()")))
@@ -130,7 +131,7 @@ fn every_language_form_stands_where_the_page_says() {
 #[test]
 fn every_name_on_the_page_of_demands_stands_in_the_repository() {
     let page = read(&root().join("docs/DEMANDS.md"));
-    let sources = files("specs", "antt").into_iter().chain(files("src", "rt"));
+    let sources = files("specs", "antt").into_iter().chain(files("proofs", "antt")).chain(files("src", "rt"));
     let texts: Vec<String> = sources.map(|path| read(&path)).collect();
     let known: BTreeSet<&str> = texts.iter().flat_map(|text| text.lines()).filter_map(declared).collect();
     let contracts = read(&root().join("docs/CONTRACTS.md"));

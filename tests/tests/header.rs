@@ -8,7 +8,7 @@ const SOURCE: &str = include_str!("../../crates/planner/src/lib.rt");
 const SOURCE_TYPES: &str = include_str!("../../crates/regular/src/lib.rt");
 const CRATE: &str = include_str!("../planner/src/lib.rs");
 const EXPORTED: &str = include_str!("../src/exported.rs");
-const LIBRARY: &str = concat!(env!("CARGO_MANIFEST_DIR"), "/../target/staticlib/libplanner.a");
+const LIBRARY: &str = concat!(env!("CARGO_MANIFEST_DIR"), "/../crates/planner/out/libplanner.a");
 
 /// The functions of this library that the lines have: names that begin with `plan_`, up to an opening parenthesis.
 fn functions<'a>(lines: impl Iterator<Item = &'a str>) -> BTreeSet<String> {

@@ -5,15 +5,20 @@ use plan_tests::repository::root;
 use std::fs::{create_dir_all, remove_dir_all, write};
 use std::process::Command;
 
-/// A proof that the checker's own walk closes.
-const COVERED: &str = "use Rattle·c·proofs.proofs.f.Tie as tie
+/// A proof that the checker's own walk closes: an answer to a goal.
+const COVERED: (&str, &str) = (
+    "Answers.antt",
+    "use Rattle.c.proofs.f.Goals as goal
 
-returns : tie.Need-returns
+pub returns : goal.returns
 returns c = law _
-";
+",
+);
 
 /// A proof by hand: a step of its walk, one whose statement has two lines, and a law beside the walk.
-const BY_HAND: &str = "use Rattle·c·proofs.proofs.f.Code as code
+const BY_HAND: (&str, &str) = (
+    "Proof.antt",
+    "use Rattle.c.proofs.f.Code as code
 
 module _ (n : ℕ) where
   promised : (k : ℕ) → Lowest n k
@@ -26,20 +31,28 @@ module _ (n : ℕ) where
   goes : (k : ℕ) → k ≤ 8
       → ent 𝓤 (sem n k) (pre k)
   goes k h = steps
-";
+",
+);
 
 /// Two types that differ, which is what a fact says that does not hold.
 const DIFFER: &str = "computed as far as they go, the two types differ only where one has `3`\n  (expected) and the other has `4` (found)";
 
-/// The account that is given of the function f, whose proof is this text, where an error names this and says that.
-fn account(test: &str, proof: &str, named: &str, said: &str) -> String {
+/// The account that is given of the function f, whose proof file has this name and text, where an error names this and says that.
+fn account(test: &str, proof: (&str, &str), named: &str, said: &str) -> String {
+    account_of(test, proof, |file| {
+        let errors = format!("{file}:7:3: error: `{named}`: {said}\n{file}:9:1: error: `f-spec`: `{named}` was not admitted\n");
+        errors + "fn c::f: not proved\nfn c::g: not proved; it calls `c::f`, which is not proved\n"
+    })
+}
+
+/// The account that is given of the function f, whose proof file has this name and text, by the log that is made for the file's path.
+fn account_of(test: &str, (name, text): (&str, &str), made: impl Fn(&str) -> String) -> String {
     let folder = format!("{}/refusals-{test}", env!("CARGO_TARGET_TMPDIR"));
     create_dir_all(format!("{folder}/proofs/f")).expect("a folder");
-    let file = format!("{folder}/proofs/f/Proof.antt");
-    write(&file, proof).expect("a proof");
+    let file = format!("{folder}/proofs/f/{name}");
+    write(&file, text).expect("a proof");
     let log = format!("{folder}/log");
-    let errors = format!("{file}:7:3: error: `{named}`: {said}\n{file}:9:1: error: `f-spec`: `{named}` was not admitted\n");
-    write(&log, errors + "fn c::f: not proved\nfn c::g: not proved; it calls `c::f`, which is not proved\n").expect("a log");
+    write(&log, made(&file)).expect("a log");
     let awk = Command::new("awk").arg("-f").arg(root().join(".ci/refusals.awk")).arg(&log).env("LC_ALL", "C").output().expect("awk runs");
     remove_dir_all(&folder).expect("the folder goes");
     assert!(awk.status.success() && awk.stderr.is_empty(), "awk: {}", String::from_utf8_lossy(&awk.stderr));
@@ -77,4 +90,41 @@ fn types_that_differ_in_a_law_beside_a_walk_are_a_fact() {
 #[test]
 fn what_a_proof_by_hand_does_not_declare_is_a_lost_place() {
     assert!(account("unknown", BY_HAND, "elsewhere", DIFFER).starts_with("place elsewhere "));
+}
+
+/// What the check says of the goals of f that it does not prove: one, and another at which values make it false, where there are such.
+fn goals(lost: &str, at: &str) -> String {
+    let note = |goal: &str, more: &str| {
+        format!("note: src/lib.rt:7:5: it is not proved that what f ensures holds when it returns (`{goal}`){more}\n")
+    };
+    let refuted = if at.is_empty() { "" } else { "; the facts known there allow values at which this goal is false" };
+    let stated = |goal: &str, statement: &str| {
+        let asked =
+            format!("note: `{goal}` of proofs/f/Answers.antt must prove: {statement}\n  names you can use, by step:\n  | c.args: .x\n");
+        asked
+            + &if at.is_empty() {
+                String::new()
+            } else {
+                format!("note: `{goal}` of proofs/f/Answers.antt may be false: the known facts allow {at}: help: a\n")
+            }
+    };
+    let first = note("returns-then-x-eq1", refuted);
+    let fns = "fn c::f: not proved\nfn c::g: no proof: it calls `c::f`, which is not proved\n";
+    format!("{lost}{first}{fns}{}", stated("returns-then-x-eq1", "Rattle.c.specs.M.low c.args.x ≡ 0"))
+}
+
+#[test]
+fn a_goal_that_nothing_proves_is_a_fact() {
+    let said = "own returns-then-x-eq1 no proof of `low x ≡ 0`";
+    assert_eq!(account_of("unproved", COVERED, |_| goals("", "")), said);
+}
+
+#[test]
+fn a_goal_that_nothing_proves_is_a_lost_place_where_an_answer_lost_its_goal() {
+    let lost = |file: &str| {
+        format!("{file}:3:7: error: `returns-then-x-eq0`: `goal.returns-then-x-eq0`: module `Rattle.c.proofs.f.Goals` has no `returns-then-x-eq0`\n")
+    };
+    assert!(account_of("renamed", COVERED, |file| goals(&lost(file), "")).starts_with("place returns-then-x-eq0 "));
+    let said = "own returns-then-x-eq1 no proof of `low x ≡ 0`, false at `x` = `1`";
+    assert_eq!(account_of("refuted", COVERED, |file| goals(&lost(file), "`c.args.x` = `1`")), said);
 }

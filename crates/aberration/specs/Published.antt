@@ -62,7 +62,8 @@ module _ (n g : ℕ) (ws vs : List ℕ) where
   }
 
   -- where the answer is the first in both orders, the patterns are equal
-  pub tie_pattern : {r k : ℕ} → ChoosesLess n (n - g) (of_words n g ws 0) (of_words n g vs 0) r → ChoosesLess n (n - g) (of_words n g vs 0) (of_words n g ws 0) k
+  pub tie_pattern : {r k : ℕ} → ChoosesLess n (n - g) (of_words n g ws 0) (of_words n g vs 0) r
+      → ChoosesLess n (n - g) (of_words n g vs 0) (of_words n g ws 0) k
       → r ≡ 1 → k ≡ 1 → (p q : List ℕ) → Pattern n (Fraction n g ws 0) p → Pattern n (Fraction n g vs 0) q → (l : ℕ) → 1 ≤ l → l ≤ n
       → of_length p l ≡ of_length q l
   tie_pattern (Chooses.first l none) (Chooses.first i other) e f p q of-p of-q =

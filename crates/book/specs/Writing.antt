@@ -6,7 +6,8 @@ use Rattle.regular.specs.RefusalLaws.{Lower}
 use Rattle.lent.specs.Lending.{Lending}
 use Rattle.regular.specs.PlanBytes.{plan_at}
 use Rattle.regular.specs.declared.Design.{Design}
-use Rattle.regular.specs.Book.{header, header_length, entry_length, BookEntry, entry_of_columns, entry_of_design, EntryBytes, EntriesBytes, book_length, CountFault}
+use Rattle.regular.specs.Book.{header, header_length, entry_length, BookEntry, entry_of_columns}
+use Rattle.regular.specs.Book.{entry_of_design, EntryBytes, EntriesBytes, book_length, CountFault}
 use Rattle.book.specs.Over.{over}
 
 -- the entry of the columns c and the plan of standard columns

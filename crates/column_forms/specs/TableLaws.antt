@@ -123,7 +123,8 @@ module _ (c : List ℕ) (f : ℕ) (t : List ℕ) (x : ℕ) (is : x ≡ get_or c 
       ⊎_elim (λ e. Repeat.none f h (sym is ∙ e)) (λ r. Repeat.twice r.0 f r.1.0 h (r.1.1 ∙ is)) (s.only x p)
 
 -- run tables
-pub unit_turn : (c : List ℕ) (f d w x : ℕ) → f < 16 → w ≡ run_of c f (2 ^ d) → x ≡ bit d (get_or c f 0) → bit_or w (x * 2 ^ f % 2 ^ 16) ≡ run_of c (f + 1) (2 ^ d)
+pub unit_turn : (c : List ℕ) (f d w x : ℕ) → f < 16 → w ≡ run_of c f (2 ^ d) → x ≡ bit d (get_or c f 0)
+    → bit_or w (x * 2 ^ f % 2 ^ 16) ≡ run_of c (f + 1) (2 ^ d)
 unfolding run_of
 unit_turn c f d w x h e p =
     let y = get_or c f 0 in

@@ -22,7 +22,8 @@ agree_sum (suc k) p q same =
     omega (arith, agree_sum k p q (λ l h less. same l h (omega arith)), last)
 
 -- .. and where they have as many words up to the next, they agree there too
-agree_next : (n : ℕ) (p q : List ℕ) → 1 ≤ n → sum_to n p ≡ sum_to n q → ((l : ℕ) → 1 ≤ l → l < n → of_length p l ≡ of_length q l) → of_length p n ≡ of_length q n
+agree_next : (n : ℕ) (p q : List ℕ) → 1 ≤ n → sum_to n p ≡ sum_to n q → ((l : ℕ) → 1 ≤ l → l < n → of_length p l ≡ of_length q l)
+    → of_length p n ≡ of_length q n
 unfolding sum_to
 agree_next zero p q some e same = absurd (omega arith)
 agree_next (suc k) p q some e same =

@@ -71,9 +71,11 @@ module _ (m seed f : ℕ) (c seen : List ℕ) (state : ℕ) (k : Drawing m seed 
           first_agree (2 ^ m - 1) (Column e c) (Column e (slice_set c f x)) (column_equal f c (slice_set c f x) (kept x) e l)
           (column_equal f (slice_set c f x) c (λ g h. sym (kept x g h)) e l) (draw seed (e - m) % (2 ^ m - 1) + 1) y
 
-      later_at : (e : ℕ) → e ≡ f → m ≤ e → FirstUnused (2 ^ m - 1) (Column e (slice_set c f x)) (draw seed (e - m) % (2 ^ m - 1) + 1) (slice_index (slice_set c f x) e)
+      later_at : (e : ℕ) → e ≡ f → m ≤ e →
+          FirstUnused (2 ^ m - 1) (Column e (slice_set c f x)) (draw seed (e - m) % (2 ^ m - 1) + 1) (slice_index (slice_set c f x) e)
       later_at e q l =
-          subst (λ (j : ℕ). FirstUnused (2 ^ m - 1) (Column j (slice_set c f x)) (draw seed (j - m) % (2 ^ m - 1) + 1) (slice_index (slice_set c f x) j)) (sym q)
+          subst (λ (j : ℕ). FirstUnused (2 ^ m - 1) (Column j (slice_set c f x)) (draw seed (j - m) % (2 ^ m - 1) + 1)
+          (slice_index (slice_set c f x) j)) (sym q)
           (subst (FirstUnused (2 ^ m - 1) (Column f (slice_set c f x)) (draw seed (f - m) % (2 ^ m - 1) + 1)) (sym (put_at x))
           (moved_on f (omega arith) x (drawn (omega arith))))
 

@@ -55,7 +55,8 @@ counts_none xs = record { places = refl; count = λ i h. zeros 17 i ∙ sym (tal
 pub counts_le : (k l : ℕ) (xs t : List ℕ) → l ≤ 16 → LettersCounted k xs t → get_or t l 0 ≤ k
 counts_le k l xs t h c = omega (arith, c.count l h, tally_le (λ j. letters (get_or xs j 0)) k l)
 
-pub counts_more : (k l : ℕ) (xs t : List ℕ) → l ≡ letters (get_or xs k 0) → l ≤ 16 → LettersCounted k xs t → LettersCounted (k + 1) xs (set t l (get_or t l 0 + 1))
+pub counts_more : (k l : ℕ) (xs t : List ℕ) → l ≡ letters (get_or xs k 0) → l ≤ 16 → LettersCounted k xs t
+    → LettersCounted (k + 1) xs (set t l (get_or t l 0 + 1))
 counts_more k l xs t e h c =
     let v : ℕ → ℕ = λ j. letters (get_or xs j 0) in
     let y = get_or t l 0 + 1 in

@@ -4,7 +4,8 @@ use mathlib.Core.List.{List, ◌++◌, append_assoc}
 use Prim.Native.Nat.{ℕ, suc, ◌+◌, ◌*◌, ◌/◌, ◌%◌, ◌≤◌, ◌<◌}
 use native.Mathlib.Omega.{arith}
 use lib.ListN.{length, get_or, take, drop, set, length-set, get_or-append}
-use lib.Seq.{paste, length-paste, drop-paste, length-take-le, get_or-append-add, get_or-take, get_or-set_same, get_or-set_other, drop-set-lt, drop-drop, ext_get_or}
+use lib.Seq.{paste, length-paste, drop-paste, length-take-le, get_or-append-add, get_or-take}
+use lib.Seq.{get_or-set_same, get_or-set_other, drop-set-lt, drop-drop, ext_get_or}
 use Rattle.regular.specs.Smallest.{Equal}
 use Rattle.regular.specs.PlanBytes.{byte_values, plan_bytes, mask_in, plan_start, plan_at, HasPlan}
 use Rattle.plan_layout.specs.Put.{MaskPut, PlanPut}

@@ -4,7 +4,8 @@
 --     plan-place, plan-column, plan-mask, plan-size          what plan i is
 --     plan-part, plan-only                                   .. as a part of the bytes, and where it is all of them
 use Rattle.std.specs.Prelude.{ℕ, suc, ◌+◌, ◌*◌, ◌-◌, ◌/◌, ◌≤◌, ◌<◌, ◌≡◌, List, length, get_or, take, drop}
-use Rattle.std.proofs.Common.{sym, ap, ◌∙◌, mul-le-mul_right, zero-mul, suc-mul, div-mul-le_self, le-div_iff_mul-le, mul-div_cancel, arith, length-drop, length-take-le, take_all, get_or-take, get_or-drop}
+use Rattle.std.proofs.Common.{sym, ap, ◌∙◌, mul-le-mul_right, zero-mul, suc-mul, div-mul-le_self, le-div_iff_mul-le}
+use Rattle.std.proofs.Common.{mul-div_cancel, arith, length-drop, length-take-le, take_all, get_or-take, get_or-drop}
 use Rattle.regular.specs.PlanBytes.{byte_values, plan_bytes, mask_in, plan_start, plan_at, HasPlan, plan_count}
 
 -- the columns of a plan are among its bytes

@@ -38,7 +38,8 @@ line_more {n} {g} {k} {list} h l e =
     }
 
 pub lines_turn : (n g place : ℕ) (list : List Design) (d : Design) {xs ys zs : List ℕ} {at mid end : ℕ} → 1 ≤ place → place - 1 < length list
-    → Listable n g (get_or list (place - 1) blank) → EntryLines n g (place - 1) list xs ys at mid → EntryLine n g place (get_or list (place - 1) d) ys zs mid end
+    → Listable n g (get_or list (place - 1) blank) → EntryLines n g (place - 1) list xs ys at mid
+    → EntryLine n g place (get_or list (place - 1) d) ys zs mid end
     → EntryLines n g (place + 1 - 1) list xs zs at end
 lines_turn n g place list d {xs} {ys} {zs} {at} {mid} {end} low h a l e =
     let p : place ≡ suc (place - 1) = omega arith in

@@ -60,7 +60,8 @@ module _ (n m place : ℕ) (c d : List ℕ) (same : Equal n c d) (i j : ℕ) (p 
   entry_unique a b x y =
       let s = agree_sym (plan_of n m c) (plan_of n m d) (plan_cols n m c d same) in
       let e : i ≡ j = resolution_unique n (plan_of n m c) i j a (resolution_agree n (plan_of n m d) (plan_of n m c) s j b) in
-      let t : columns_text n c ≡ columns_text n d = each_same (λ f. next (get_or c f 0)) (λ f. next (get_or d f 0)) n (λ f l. ap (λ (v : ℕ). next v) (same f l)) in
+      let t : columns_text n c ≡ columns_text n d = each_same (λ f. next (get_or c f 0)) (λ f. next (get_or d f 0)) n
+      (λ f l. ap (λ (v : ℕ). next v) (same f l)) in
       let u : counts_text n p ≡ counts_text n q =
       each_same (λ k. next (of_length p (3 + k))) (λ k. next (of_length q (3 + k))) (n - 2)
       (λ k l. ap (λ (v : ℕ). next v) (pattern_unique n (plan_of n m c) p q x (pattern_agree n (plan_of n m d) (plan_of n m c) s q y) (3 + k)

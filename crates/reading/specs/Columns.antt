@@ -22,7 +22,11 @@ module _ (n g r : ℕ) (sized : Sized n g r) (book : List ℕ) (i : ℕ) (few : 
 
   module _ (whole : k ≡ 0) where
     pub there : EntryThere n book i
-    there = record { size = sized.size.most; few = few; whole = (record_zero (columns_kind n) (columns_length n) book (book_length n i) k whole record_here).1 }
+    there = record {
+      size = sized.size.most;
+      few = few;
+      whole = (record_zero (columns_kind n) (columns_length n) book (book_length n i) k whole record_here).1;
+    }
 
     untrue : (TrueColumns n g r book i → ⊥) → ColumnsChecks n g r book i 12
     untrue ne = goes_on k 12 whole record_here (Check.fails ne)

@@ -1,6 +1,7 @@
 -- Parts of a list of bytes: parts of one length one after another, a part cut in two, and the first n columns of a list.
 use Rattle.std.specs.Prelude.{ℕ, zero, suc, ◌+◌, ◌*◌, ◌≤◌, ◌<◌, ◌≡◌, refl, List, [], ◌∷◌, ◌++◌, length, get_or, take, drop}
-use Rattle.std.proofs.Common.{sym, ap, ap₂, ◌∙◌, zero-mul, suc-mul, mul-le-mul_right, arith, length-drop, take-add, take-take, take_at, take_all, take-suc, drop_at, drop-drop}
+use Rattle.std.proofs.Common.{sym, ap, ap₂, ◌∙◌, zero-mul, suc-mul, mul-le-mul_right, arith}
+use Rattle.std.proofs.Common.{length-drop, take-add, take-take, take_at, take_all, take-suc, drop_at, drop-drop}
 use Rattle.std.proofs.Math.Logic.{by_cases}
 use Rattle.std.proofs.Math.Decide.{ℕ_discrete}
 use Rattle.std.proofs.lemmas.List.{take-append-le, drop-append-le}

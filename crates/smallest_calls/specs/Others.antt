@@ -44,5 +44,6 @@ module _ (n g : ℕ) (list : List ℕ) (places : ℕ) (out : List ℕ) where
   pub others_most : (k : ℕ) → others k → k ≤ 8
   others_most k e = ⊎_elim (plans_most n g list k) (λ f. omega (arith, lent_is places out k f)) e
 
-  pub others_lowest : (listed other : ℕ) → Lowest (wanted_plans_faults n g 3 false list) listed → Lending listed places (length out) other → Lowest others other
+  pub others_lowest : (listed other : ℕ) → Lowest (wanted_plans_faults n g 3 false list) listed → Lending listed places (length out) other
+      → Lowest others other
   others_lowest listed other low l = lending_lowest (plans_faults n g list) listed places out other (three_plans n g list listed low) (plans_most n g list) l

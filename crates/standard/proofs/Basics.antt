@@ -1,5 +1,5 @@
 -- The walk over the factors, on: what holds of the next factor, and of each number of them.
-use Rattle.std.specs.Prelude.{◌≡◌, ◌⊎◌, Bool, true, false, eqb}
+use Rattle.std.specs.Prelude.{◌≡◌, Bool, true, false, eqb}
 use Rattle.std.proofs.Math.Path.{refl, sym}
 use Rattle.std.proofs.Common.{◌∙◌, subst, ⊎_elim, eqb-true, pow_pos}
 use Rattle.std.proofs.Math.Logic.{by_cases}

@@ -72,7 +72,13 @@ module _ (n : ℕ) (u : List ℕ) (s : Space n u) where
         }
 
     space_into : (x : ℕ) → In x u → plan_of n m cols x
-    space_into x i = (coord_of (basics_at u n) x, (subst (λ (b : ℕ). coord_of (basics_at u n) x < 2 ^ b) rank_is (coord_lt (basics_at u n) x), run_of_coord x i))
+    space_into x i = (
+      coord_of (basics_at u n) x,
+      (
+        subst (λ (b : ℕ). coord_of (basics_at u n) x < 2 ^ b) rank_is (coord_lt (basics_at u n) x),
+        run_of_coord x i,
+      ),
+    )
 
     space_onto : (j : ℕ) → j < 2 ^ m → In (run_of cols n j) u
     space_onto j h =

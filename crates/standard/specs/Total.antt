@@ -27,7 +27,8 @@ pub total_xor : (c : List ℕ) (n s t : ℕ) → total c n (bit_xor s t) ≡ bit
 unfolding total
 total_xor c zero s t = refl
 total_xor c (suc n) s t =
-    ap₂ bit_xor (total_xor c n s t) (ap (λ (d : ℕ). get_or c n 0 * d) (bit_xor_lem n s t) ∙ times_xor (get_or c n 0) (bit n s) (bit n t) (omega arith) (omega arith))
+    ap₂ bit_xor (total_xor c n s t) (ap (λ (d : ℕ). get_or c n 0 * d) (bit_xor_lem n s t) ∙ times_xor (get_or c n 0) (bit n s) (bit n t) (omega arith)
+    (omega arith))
     ∙ xor_4 (total c n s) (total c n t) (get_or c n 0 * bit n s) (get_or c n 0 * bit n t)
 
 total_bits : (c : List ℕ) (n s t : ℕ) → ((i : ℕ) → i < n → bit i s ≡ bit i t) → total c n s ≡ total c n t

@@ -85,7 +85,8 @@ module _ (n m : ℕ) (t : List ℕ) (w : Walked) (count : length t ≡ 2 ^ m) (w
   runs_at : (i : ℕ) → i < length t → diff_at t i ≡ run_of w.columns n (coord_of s.bs (diff_at t i))
   runs_at i h =
       let d = diff_at t i in
-      let l : d < 2 ^ n = xor_lt n (get_or t i 0) (get_or t 0 0) (within (get_or t i 0) (place_in t i h)) (within (get_or t 0 0) (place_in t 0 (omega arith))) in
+      let l : d < 2 ^ n = xor_lt n (get_or t i 0) (get_or t 0 0) (within (get_or t i 0) (place_in t i h))
+      (within (get_or t 0 0) (place_in t 0 (omega arith))) in
       sym (mod-eq_of_lt l) ∙ run_is w.columns (coord_of s.bs d) d n (λ f q. (s.fits f q).1 d (at_diff t i h))
 
   below_at : (i : ℕ) → i < length t → coord_of s.bs (diff_at t i) < 2 ^ m

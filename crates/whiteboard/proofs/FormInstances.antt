@@ -24,7 +24,8 @@ use Rattle.whiteboard.specs.SignInstances.{minus, three, run_minus, five_columns
 use Rattle.whiteboard.proofs.SignInstances.{standard_minus, standard_first}
 use Rattle.whiteboard.specs.SignInstances.{reduced_words, signed_first}
 use Rattle.whiteboard.specs.Tests.{below, below_at, agree_at}
-use Rattle.whiteboard.specs.FormInstances.{standard_like, standard_agree, columns_allowed, record_minus, bytes_minus, table_minus, table_agree, bytes_first, equal_first}
+use Rattle.whiteboard.specs.FormInstances.{standard_like, standard_agree, columns_allowed, record_minus, bytes_minus}
+use Rattle.whiteboard.specs.FormInstances.{table_minus, table_agree, bytes_first, equal_first}
 
 pub holds_minus : HoldsWith 3 2 (Standard 3 2 minus) record_minus
 unfolding below

@@ -25,7 +25,8 @@ use Rattle.whiteboard.specs.ResultInstances.{own_formed, seven, filled, equal_fi
 use Rattle.whiteboard.specs.Samples.{abc, plan_abc}
 use Rattle.whiteboard.proofs.Samples.{signed_samples}
 use Rattle.whiteboard.specs.Tests.{below}
-use Rattle.whiteboard.specs.MaskedAnswers.{switched_abc, equal_switched, entry_switched, names, named, equal_plan, both_abc, equal_filled_switched, only_plan, long_switched}
+use Rattle.whiteboard.specs.MaskedAnswers.{switched_abc, equal_switched, entry_switched, switched_names, named}
+use Rattle.whiteboard.specs.MaskedAnswers.{equal_plan, both_abc, equal_filled_switched, only_plan, long_switched}
 
 pub allowed_switched : Allowed 4 (plan_of 4 3 switched_abc) 4
 allowed_switched =
@@ -36,14 +37,15 @@ accepted_switched =
     bytes_accepted 4 1 switched_abc size_4 refl entry_switched.smallest.columns.below entry_switched.smallest.columns.rank entry_switched.long
     allowed_switched
 
-pub compares_switched : Compares 4 (of_columns 4 1 switched_abc) (of_columns 4 1 plan_abc) five names (Compared.Same 4)
+pub compares_switched : Compares 4 (of_columns 4 1 switched_abc) (of_columns 4 1 plan_abc) five switched_names (Compared.Same 4)
 compares_switched =
     let s = (of_columns 4 1 switched_abc).plan in
     Compares.same 4
     (lowest_then (either (columns_faults 4 1 switched_abc) (columns_faults 4 1 plan_abc)) (LentFault 4 five) 0
     (lowest_then (columns_faults 4 1 switched_abc) (columns_faults 4 1 plan_abc) 0 accepted_switched accepted_columns) (lent_fits 4 five (omega arith)))
-    (carries_agree 4 s s (plan_of 4 3 plan_abc) (of_columns 4 1 plan_abc).plan names 4 (agree_refl s) (bytes_plan 4 3 plan_abc plan_abc (λ f h. refl) refl)
-    (own_formed switched_abc plan_abc names entry_switched equal_plan named (omega arith)).witness)
+    (carries_agree 4 s s (plan_of 4 3 plan_abc) (of_columns 4 1 plan_abc).plan switched_names 4 (agree_refl s)
+    (bytes_plan 4 3 plan_abc plan_abc (λ f h. refl) refl)
+    (own_formed switched_abc plan_abc switched_names entry_switched equal_plan named (omega arith)).witness)
     (λ from to. absurd (omega (arith, from))) refl refl
 
 both_none : (k : ℕ) → plans_faults 4 1 both_abc k → ⊥
@@ -60,7 +62,7 @@ both_none k f =
         (λ ne. let e : i ≡ 1 = omega arith in
         none_lowest (columns_faults 4 1 plan_abc) accepted_columns k (subst (λ (j : ℕ). columns_faults 4 1 (plan_at 4 both_abc j) k) e f))
 
-pub reduces_switched : ReducesInto 4 1 (of_columns 4 1 switched_abc) both_abc seven filled five names (record { number = 0; mask = 4; place = 2 })
+pub reduces_switched : ReducesInto 4 1 (of_columns 4 1 switched_abc) both_abc seven filled five switched_names (record { number = 0; mask = 4; place = 2 })
 reduces_switched = record {
   lowest = lowest_then (either (columns_faults 4 1 switched_abc) (either (plans_faults 4 1 both_abc) (LentFault 6 seven))) (LentFault 4 five) 0
       (lowest_then (columns_faults 4 1 switched_abc) (either (plans_faults 4 1 both_abc) (LentFault 6 seven)) 0 accepted_switched
@@ -69,7 +71,7 @@ reduces_switched = record {
   no_mask = λ h. absurd (omega arith);
   no_place = λ h. absurd (omega arith);
   untouched = λ h. absurd (omega arith);
-  form = λ e. own_formed switched_abc filled names entry_switched equal_filled_switched named (omega arith);
+  form = λ e. own_formed switched_abc filled switched_names entry_switched equal_filled_switched named (omega arith);
   unswitched = λ e. refl;
   found = λ e. FirstPlace.found 1 (omega arith) (equal_filled, refl) (λ j l q. let z : j ≡ 0 = omega arith in
       omega (arith, subst (λ (i : ℕ). mask_in 4 (plan_at 4 both_abc i) ≡ 0) z q.1));

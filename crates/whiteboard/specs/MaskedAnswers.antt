@@ -28,12 +28,12 @@ pub entry_switched : Entry 4 3 3 switched_abc
 entry_switched = entry_equal 4 3 abc switched_abc equal_switched 3 (catalogue_4.sound 0 (omega arith))
 
 -- a witness to ABC needs the switch
-abbrev pub names : List ℕ
-names = 0 ∷ 1 ∷ 2 ∷ 3 ∷ 9 ∷ []
+abbrev pub switched_names : List ℕ
+switched_names = 0 ∷ 1 ∷ 2 ∷ 3 ∷ 9 ∷ []
 
-pub named : Equal 4 own names
+pub named : Equal 4 own switched_names
 unfolding below
-named = agree_at (λ f. get_or own f 0) (λ f. get_or names f 0) 4 refl
+named = agree_at (λ f. get_or own f 0) (λ f. get_or switched_names f 0) 4 refl
 
 pub equal_plan : Equal 4 switched_abc plan_abc
 unfolding below

@@ -304,7 +304,8 @@ fault_rank = ColumnsFault.rank not_spans
 
 pub fault_repeat : ColumnsFault 4 3 (1 ∷ 1 ∷ 2 ∷ 4 ∷ []) 7
 fault_repeat =
-    ColumnsFault.short (repeat_gives_short 4 3 (plan_of 4 3 (1 ∷ 1 ∷ 2 ∷ 4 ∷ [])) (1 ∷ 1 ∷ 2 ∷ 4 ∷ []) (agree_refl (plan_of 4 3 (1 ∷ 1 ∷ 2 ∷ 4 ∷ []))) repeat_ab)
+    ColumnsFault.short (repeat_gives_short 4 3 (plan_of 4 3 (1 ∷ 1 ∷ 2 ∷ 4 ∷ [])) (1 ∷ 1 ∷ 2 ∷ 4 ∷ []) (agree_refl (plan_of 4 3 (1 ∷ 1 ∷ 2 ∷ 4 ∷ [])))
+    repeat_ab)
 
 pub fault_runs : TableFault 4 3 (0 ∷ 5 ∷ []) 4
 fault_runs = TableFault.count (λ e. omega arith)

@@ -174,7 +174,8 @@ plans_none k f =
 abbrev pub own : List ℕ
 own = 0 ∷ 1 ∷ 2 ∷ 3 ∷ []
 
-pub own_formed : (c d names : List ℕ) → Entry 4 3 3 c → Equal 4 c d → Equal 4 own names → mask_in 4 c < 16 → Formed 4 3 (of_columns 4 1 c) d names (mask_in 4 c)
+pub own_formed : (c d names : List ℕ) → Entry 4 3 3 c → Equal 4 c d → Equal 4 own names → mask_in 4 c < 16 → Formed 4 3 (of_columns 4 1 c) d names
+    (mask_in 4 c)
 unfolding list_to below
 own_formed c d names entry e named l =
     let mask = mask_in 4 c in

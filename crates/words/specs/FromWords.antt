@@ -91,14 +91,21 @@ module _ (n : ℕ) (piv : List ℕ) (lasts : Lasts n piv) where
   col_lt (suc f) g h l =
       by_cases (ℕ_discrete (get_or piv f 0) 0)
       (λ z.
-      let m : 2 ^ free_before piv f < 2 ^ free_before piv (suc f) = pow-lt {i = free_before piv f} {j = free_before piv (suc f)} (omega (arith, free_next f z)) in
+      let m : 2 ^ free_before piv f < 2 ^ free_before piv (suc f) = pow-lt {i = free_before piv f} {j = free_before piv (suc f)}
+      (omega (arith, free_next f z)) in
       by_cases (ℕ_discrete g f)
       (λ e. omega (arith, ap (λ (i : ℕ). get_or a i 0) e, col_free f h z))
       (λ ne. omega (arith, col_lt f g (omega arith) (omega arith))))
       (λ z.
       let m = ap (λ (k : ℕ). 2 ^ k) (free_stay f z) in
       by_cases (ℕ_discrete g f)
-      (λ e. omega (arith, ap (λ (i : ℕ). get_or a i 0) e, col_pivot f h z, total_lt a f (free_before piv f) (get_or piv f 0) (λ i k. col_lt f i (omega arith) k)))
+      (λ e. omega (
+        arith,
+        ap (λ (i : ℕ). get_or a i 0) e,
+        col_pivot f h z,
+        total_lt a f (free_before piv f) (get_or piv f 0)
+            (λ i k. col_lt f i (omega arith) k),
+      ))
       (λ ne. omega (arith, col_lt f g (omega arith) (omega arith))))
 
   pivot_lt : (f : ℕ) → f < n → (get_or piv f 0 ≡ 0 → ⊥) → get_or a f 0 < 2 ^ free_before piv f

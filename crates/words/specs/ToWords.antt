@@ -91,7 +91,8 @@ module _ (n m : ℕ) (a : List ℕ) (s : StandardForm n m a) where
       (λ q. wc_at n piv f h ∙ ap (λ (t : Bool). pick t (2 ^ free_before piv f) (total c f (get_or piv f 0))) (eq-eqb (get_or piv f 0) 0 (piv_basic f h q))
       ∙ ap (λ (k : ℕ). 2 ^ k) (free_units f (omega arith)) ∙ sym q)
       (λ q. wc_at n piv f h
-      ∙ ap (λ (t : Bool). pick t (2 ^ free_before piv f) (total c f (get_or piv f 0))) (ne_eqb (get_or piv f 0) 0 (λ z. word_some f (sym (piv_word f h q) ∙ z)))
+      ∙ ap (λ (t : Bool). pick t (2 ^ free_before piv f) (total c f (get_or piv f 0)))
+      (ne_eqb (get_or piv f 0) 0 (λ z. word_some f (sym (piv_word f h q) ∙ z)))
       ∙ ap (total c f) (piv_word f h q) ∙ total_cols c a f (word_at a f) ih ∙ word_total f (omega (arith, s.next f h))) in
       by_cases (ℕ_discrete g f) (λ e. rw e here) (λ ne. ih g (omega arith))
 

@@ -1,6 +1,5 @@
 -- `admission::admit_design` meets its contract: 1, 2, 4 and a used place past the factors are met first, then the faults of columns and mask. Assumes nothing.
 use Rattle.std.proofs.Common.{arith, sym, inl, inr, ◌-◌, ℕ, ◌<◌, ◌≤◌, ◌∙◌, ◌≡◌, refl}
-use Rattle.std.proofs.lemmas.Bool.{not-true, not-false}
 use Rattle.admission.specs.Faults.{record_0, record_4, record_5, masked_least}
 use Rattle.admission.specs.Admitting.{array_admission, plan_refused}
 use Rattle.regular.specs.Refusals.{design_faults, RecordFault, either, masked_faults, Lowest}

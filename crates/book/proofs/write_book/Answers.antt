@@ -1,5 +1,5 @@
 -- `book::write_book` meets its contract: all is judged, the header is begun, then the entries follow. Assumes nothing.
-use Rattle.std.proofs.Common.{true, List, ℕ, length, ◌≡◌, subst}
+use Rattle.std.proofs.Common.{true, List, ℕ, length, subst}
 use Rattle.regular.specs.Refusals.{Lowest}
 use Rattle.regular.specs.PlanBytes.{plan_count}
 use Rattle.regular.specs.PlanLists.{wanted_plans_faults}

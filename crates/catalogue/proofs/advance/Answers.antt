@@ -1,6 +1,5 @@
 -- `catalogue::advance` meets its contract: the four ways that a turn goes. Assumes nothing.
 use Rattle.std.proofs.Common.{arith}
-use Rattle.std.proofs.lemmas.Bool.{not-true, not-false}
 use Rattle.regular.specs.Sizes.{Sized}
 use Rattle.catalogue.proofs.Turns.{turn_refused, turn_ended, turn_full}
 use Rattle.catalogue.proofs.advance.Goals as goal

@@ -7,7 +7,8 @@ use Rattle.loads.proofs.list_load.Goals as goal
 
 pub returns-then-lent-ne0 : goal.returns-then-lent-ne0
 returns-then-lent-ne0 c =
-    let answers : (state : ℕ) → (c.lend_plan-lent.result ≡ 0 → state ≡ c.drawn_load-drawn.result.state) → ((c.lend_plan-lent.result ≡ 0 → ⊥) → state ≡ c.args.seed)
+    let answers : (state : ℕ) → (c.lend_plan-lent.result ≡ 0 → state ≡ c.drawn_load-drawn.result.state)
+    → ((c.lend_plan-lent.result ≡ 0 → ⊥) → state ≡ c.args.seed)
     → LoadsInto c.args.n c.args.g c.args.seed c.args.out.now c.lend_plan-lent.new.out
     (record { number = c.lend_plan-lent.result; state = state }) =
     λ state filled short. (let q = c.load_number-number in

@@ -4,7 +4,13 @@ use Rattle.patterns.proofs.resolution_of.Goals as goal
 
 pub returns-then-pattern-l-ne0 : goal.returns-then-pattern-l-ne0
 returns-then-pattern-l-ne0 c =
-    first_length_lem (record { some = omega arith; within = omega arith; before = c.loop-l.invariant.1; counted = λ few. omega (arith, c.if-pattern-l-ne0.true) })
+    first_length_lem (record {
+      some = omega arith;
+      within = omega arith;
+      before = c.loop-l.invariant.1;
+      counted = λ few. omega
+          (arith, c.if-pattern-l-ne0.true);
+    })
 
 pub returns : goal.returns
 returns c =

@@ -1,6 +1,5 @@
 -- `plan_lists::plans_refusal` meets its contract: the sizes, then the count of bytes, then each plan. Assumes nothing.
 use Rattle.std.proofs.Common.{subst}
-use Rattle.std.proofs.lemmas.Bool.{not-true, not-false}
 use Rattle.regular.specs.Refusals.{Lowest, size_faults}
 use Rattle.plan_lists.specs.Judging.{plans_four, judged_all}
 use Rattle.plan_lists.proofs.plans_refusal.Goals as goal

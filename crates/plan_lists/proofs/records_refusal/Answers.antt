@@ -1,4 +1,4 @@
-use Rattle.std.proofs.Common.{ℕ, arith, subst, get_or, le_antisymm}
+use Rattle.std.proofs.Common.{arith, subst, get_or, le_antisymm}
 use Rattle.std.proofs.lemmas.List.{get_or_default}
 use Rattle.regular.specs.Designs.{blank}
 use Rattle.regular.specs.Refusals.{size_faults}

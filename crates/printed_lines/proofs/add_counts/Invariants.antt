@@ -6,7 +6,8 @@ use Rattle.printed_lines.proofs.add_counts.Given as goal
 
 abbrev pub invariant-loop-l : goal.invariant-loop-l
 invariant-loop-l l =
-    (l.n ≤ 16) × ((l.l ≤ l.n) ⊎ (l.l ≡ 2)) × (2 ≤ l.l) × (l.end ≤ l.at + 6 * (l.l - 2)) × (l.at + 6 * (l.n - 2) + 15 ≤ length l.initial.out) × (16 ≡ length l.counts)
+    (l.n ≤ 16) × ((l.l ≤ l.n) ⊎ (l.l ≡ 2)) × (2 ≤ l.l) × (l.end ≤ l.at + 6 * (l.l - 2)) × (l.at + 6 * (l.n - 2) + 15 ≤ length l.initial.out)
+    × (16 ≡ length l.counts)
     × TextAdded l.initial.out l.out l.at (counts_text l.l l.counts) l.end
 
 abbrev pub decreases-loop-l : goal.decreases-loop-l

@@ -6,4 +6,5 @@ use Rattle.smallest_calls.proofs.smallest_of_design.Goals as goal
 pub returns : goal.returns
 returns c =
     let a = c.args in
-    formed_among a.list.now (three_records a.n a.g a.list.now _ c.records_refusal-other.ensures) c.form_of_design-form.ensures _ _ c.first_place-place.ensures c.placed.ensures
+    formed_among a.list.now (three_records a.n a.g a.list.now _ c.records_refusal-other.ensures) c.form_of_design-form.ensures _ _
+    c.first_place-place.ensures c.placed.ensures

@@ -1,7 +1,6 @@
 -- `witness_check::check_witness` meets its contract: the lower of the tables' numbers is the refusal's; then the names, the mask and the partners
 -- are tested, and a witness passes each test. Assumes nothing.
 use Rattle.std.proofs.Common.{arith}
-use Rattle.std.proofs.lemmas.Bool.{not-false, not-true}
 use Rattle.regular.specs.Comparisons.{Witness, ChecksWitness}
 use Rattle.regular.specs.Runs.{runs_of}
 use Rattle.regular.specs.Given.{of_runs}
