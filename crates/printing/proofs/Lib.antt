@@ -1,3 +1,2 @@
-pub mod Arrays
 pub mod Entries
 pub mod Printed
