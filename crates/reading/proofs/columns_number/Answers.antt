@@ -1,6 +1,5 @@
 -- `reading::columns_number` meets its contract: the record, then the entry test, then the order. Assumes nothing.
 use Rattle.std.proofs.Common.{arith}
-use Rattle.std.proofs.lemmas.Bool.{not-true, not-false}
 use Rattle.entry_test.specs.Testing.{kept_same}
 use Rattle.reading.specs.Answers.{EntryThere}
 use Rattle.reading.specs.Columns.{no_columns, there, untrue_entry, untrue_order, true_columns}

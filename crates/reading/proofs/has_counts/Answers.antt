@@ -1,4 +1,3 @@
-use Rattle.std.proofs.lemmas.Bool.{not-true}
 use Rattle.gf2.specs.Answers.{tells_no}
 use Rattle.reading.specs.Steps.{counts_not}
 use Rattle.reading.proofs.has_counts.Goals as goal

@@ -1,5 +1,4 @@
 -- `reading::judged` meets its contract: the header's refusal stays, 8 where there is no room, else the entries answer. Assumes nothing.
-use Rattle.std.proofs.lemmas.Bool.{not-false}
 use Rattle.reading.specs.AnswerLaws.{judged_sized}
 use Rattle.reading.proofs.judged.Goals as goal
 

@@ -1,6 +1,5 @@
 -- `reading::pattern_number` meets its contract: the record, then its counts against those of the plan. Assumes nothing.
 use Rattle.std.proofs.Common.{ℕ, ◌+◌, ◌*◌, ◌-◌, ◌≤◌, ◌≡◌, subst, arith, List, length}
-use Rattle.std.proofs.lemmas.Bool.{not-true, not-false}
 use Rattle.regular.specs.Reading.{columns_in, pattern_place}
 use Rattle.regular.specs.Pattern.{Pattern}
 use Rattle.regular.specs.Columns.{plan_of}
