@@ -164,7 +164,7 @@ static int refuse(unsigned number)
         [PLAN_REFUSED_COUNT] = "a list has not the right count",
         [PLAN_REFUSED_RANGE] = "a number is too large, or a letter is past the last factor",
         [PLAN_REFUSED_DEPENDENT] = "words dependent, columns of too low a rank, or runs repeated or not regular",
-        [PLAN_REFUSED_SHORT_WORD] = "a word has fewer than three letters, or N is above 2^(N - G) - 1",
+        [PLAN_REFUSED_SHORT_WORD] = "the plan has a word of fewer than three letters",
         [PLAN_REFUSED_PLACES] = "a lent list is too short",
         [PLAN_REFUSED_ROOM] = "the catalogue has more entries than there is room for",
         [PLAN_REFUSED_CUT_OFF] = "the book is cut off, or has bytes left over after its last entry",
