@@ -62,8 +62,8 @@ abbrev pub refused : ℕ → List ℕ
 refused number = refused_word ++ next number ++ newline
 
 -- "not a size\n"
-abbrev pub not_asize : List ℕ
-not_asize = 110 ∷ 111 ∷ 116 ∷ 32 ∷ 97 ∷ 32 ∷ 115 ∷ 105 ∷ 122 ∷ 101 ∷ newline
+abbrev pub not_a_size : List ℕ
+not_a_size = 110 ∷ 111 ∷ 116 ∷ 32 ∷ 97 ∷ 32 ∷ 115 ∷ 105 ∷ 122 ∷ 101 ∷ newline
 
 -- the most bytes that a line without columns takes: a header with numbers of 20 digits; and that an entry's line takes: a place of four digits, a
 -- resolution and columns of three, counts of five

@@ -4,7 +4,7 @@
 #![tactic(auto)]
 
 ghost use Rattle.std.specs.Prelude.{◌+◌, ◌-◌, ◌*◌, ◌≤◌, length};
-ghost use Rattle.printed_lines.specs.Text.{TextAdded, decimal, next, columns_text, counts_text, header_line, refused, not_asize};
+ghost use Rattle.printed_lines.specs.Text.{TextAdded, decimal, next, columns_text, counts_text, header_line, refused, not_a_size};
 ghost use Rattle.printed_lines.specs.Text.{start, entry, EntryLine, header_most, entry_most, entry_room};
 ghost use Rattle.printed_lines.specs.Listed.{Listable};
 
@@ -154,7 +154,7 @@ pub fn refused_line(number: u8, out: &mut [u8]) -> usize
 // The line for what gives no size.
 pub fn no_size_line(out: &mut [u8]) -> usize
     requires { header_most ≤ length out.old }
-    ensures { TextAdded out.old out.new 0 not_asize result × (result ≤ header_most) }
+    ensures { TextAdded out.old out.new 0 not_a_size result × (result ≤ header_most) }
 {
     add_text(b"not a size\n", 0, out)
 }

@@ -10,7 +10,7 @@ use Rattle.regular.specs.Designs.{blank}
 use Rattle.regular.specs.declared.Design.{Design}
 use Rattle.size_lines.specs.Lines.{SizeLine}
 use Rattle.printed_lines.specs.Listed.{Listable}
-use Rattle.printed_lines.specs.Text.{header_line, entry, refused, not_asize, TextAdded}
+use Rattle.printed_lines.specs.Text.{header_line, entry, refused, not_a_size, TextAdded}
 
 -- the lines of the first k of these entries, in order: each has its place, from 1, the resolution of its plan, its columns, and the counts of its plan
 pub data Lines (n g : ℕ) (columns : ℕ → List ℕ) : ℕ → List ℕ → Type 0 where
@@ -31,7 +31,7 @@ pub data SizeOutput (n g r : ℕ) : List ℕ → Type 0 where
 
 -- what is printed for a line
 pub data Output (line : List ℕ) : List ℕ → Type 0 where
-  no_size : ((n g r : ℕ) → SizeLine line n g r → ⊥) → Output line not_asize
+  no_size : ((n g r : ℕ) → SizeLine line n g r → ⊥) → Output line not_a_size
   size : (n g r : ℕ) (text : List ℕ) → SizeLine line n g r → SizeOutput n g r text → Output line text
 
 -- a text with the property P was put at the start of a list, into its first k bytes; the bytes past it are untouched
