@@ -4,7 +4,7 @@
 # its proof files lost a place, so that the proof rather than a fact fails, or a law cannot be read. A proof rests on the contracts of the functions called,
 # not on their code: what fails in it is its own, also where a function that it calls is refused too. A goal for which no file has an answer and that the
 # prover does not prove is a fact, unless the files lost a place: a goal is named after the conditions on the way to it, so an answer may be lost by its name.
-# It is one in any case where the facts known there allow values at which the goal is false. In a proof by hand (Proof.antt) every step of the walk
+# In a proof by hand (Proof.antt) every step of the walk
 # names the code that it walks: an error in a step is a lost place whatever it says, and only an error in a law beside the walk is one of a fact.
 # goal: what the first error in its proof files names, or else the first goal that is not proved. quote: what that error says, in its own words, shortened:
 #   - of two types, sides or indices that differ, the statement of where they do, as computed if the error has that, else as printed;
@@ -187,7 +187,6 @@ function take_note(    text, goal, of) {
         sub(/`\).*/, "", goal)
         sub(/.*\(`/, "", goal)
         if (!open_count++) open_first = goal
-        if (open_false == "" && text ~ /allow values at which this goal is false/) open_false = goal
         return
     }
     goal = quoted(text)
@@ -230,16 +229,15 @@ function unproved(name, goal,    said, part, count, k) {
     refused[++refused_count] = name
     if (bare in lost || bare in first) {
         account[bare] = bare in lost ? "place" : "own"
-        if (bare in lost && open_false != "") { account[bare] = "own"; open_goal[bare] = open_false }
     } else if (open_count) {
         account[bare] = "own"
         open_goal[bare] = open_first
     } else account[bare] = $0 ~ /: not proved|it calls/ ? "callee" : "place"   # nothing of its own fails: a function that it calls, or another of its cycle
     open_count = 0
-    open_first = open_false = ""
+    open_first = ""
     next
 }
-/^fn / { open_count = 0; open_first = open_false = "" }
+/^fn / { open_count = 0; open_first = "" }
 END {
     take_error()
     take_note()
