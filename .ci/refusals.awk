@@ -137,11 +137,14 @@ function quoted(s) {
     return s
 }
 
-# The function whose proof file this is, in the folder proofs/FUNCTION: of a cycle, in a folder proofs/+CYCLE, the one with whose name the goal begins.
+# The function whose proof file this is, in the folder proofs/FUNCTION or proofs/TYPE/FUNCTION: of a cycle, in a folder proofs/+CYCLE, the one with whose
+# name the goal begins.
 function proved_by(file, need,    name) {
     name = file
     sub(/\/[A-Za-z]+\.antt$/, "", name)
-    sub(/.*\//, "", name)
+    sub(/^.*\/proofs\//, "", name)
+    sub(/^proofs\//, "", name)
+    gsub(/\//, "::", name)
     if (name !~ /^\+/) return name
     sub(/^(invariant|decreases)-/, "", need)
     sub(/-.*/, "", need)
@@ -225,7 +228,7 @@ function unproved(name, goal,    said, part, count, k) {
     name = $2
     sub(/:$/, "", name)
     bare = name
-    sub(/.*::/, "", bare)
+    sub(/^[^:]*::/, "", bare)
     refused[++refused_count] = name
     if (bare in lost || bare in first) {
         account[bare] = bare in lost ? "place" : "own"
@@ -244,7 +247,7 @@ END {
     for (k = 1; k <= refused_count; k++) {
         name = refused[k]
         bare = name
-        sub(/.*::/, "", bare)
+        sub(/^[^:]*::/, "", bare)
         if (bare in open_goal) { first[bare] = open_goal[bare]; why[bare] = unproved(bare, open_goal[bare]) }
         print name "\t" account[bare] "\t" first[bare] "\t" why[bare]
     }

@@ -9,7 +9,7 @@ use Rattle.regular.specs.Columns.{plan_of}
 use Rattle.regular.specs.Refusals.{either, Lowest, Chooses, HandsBack}
 use Rattle.regular.specs.Given.{Given}
 use Rattle.regular.specs.Measures.{ChoosesLess}
-use Rattle.regular.specs.declared.Admitted.{Admitted}
+use Rattle.regular.specs.Answers.{Admitted}
 use Rattle.counts.specs.Patterns.{pattern_unique}
 use Rattle.admission.specs.Admission.{Admission, Ready, ready}
 use Rattle.measures.specs.Measured.{pattern_given, pattern_columns}

@@ -12,7 +12,7 @@ use Rattle.regular.specs.RefusalLaws.{lowest_numbered, lowest_unique}
 use Rattle.regular.specs.Columns.{plan_of}
 use Rattle.regular.specs.Given.{Given}
 use Rattle.regular.specs.GivenLaws.{StandsFor, lowest_same_lowest}
-use Rattle.regular.specs.declared.Admitted.{Admitted}
+use Rattle.regular.specs.Answers.{Admitted}
 use Rattle.standard.specs.Form.{StandardForm, StandardFor, DistinctNonzero}
 
 -- the plan p of n factors and g generators: refused with sixteen zeros, or accepted with its start and, that run being switched to 0, its standard columns

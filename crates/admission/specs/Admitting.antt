@@ -9,7 +9,7 @@ use Rattle.regular.specs.PlanBytes.{plan_bytes}
 use Rattle.regular.specs.Refusals.{SizeFault, ColumnsFault, MaskFault, ListFault, either, Lowest, masked_faults, columns_faults}
 use Rattle.regular.specs.RefusalLaws.{lowest_same, lowest_first, lowest_then, size_most}
 use Rattle.regular.specs.Accepted.{size_accepted}
-use Rattle.regular.specs.declared.Admitted.{Admitted}
+use Rattle.regular.specs.Answers.{Admitted}
 use Rattle.standard.specs.Form.{StandardFor, DistinctNonzero}
 use Rattle.standard.specs.Runs.{plan_cols}
 use Rattle.standard.specs.Total.{total_cols}

@@ -1,16 +1,18 @@
 -- Laws of the entries: one plan of the bytes more, one record more, and the room that each has.
-use Rattle.std.specs.Prelude.{ℕ, ◌+◌, ◌-◌, ◌≤◌, ◌<◌, true, ◌≡◌, List, length}
+use Rattle.std.specs.Prelude.{ℕ, ◌+◌, ◌-◌, ◌≤◌, ◌<◌, true, ◌≡◌, refl, List, length, Result, Ok, Err, IsOk}
 use Rattle.std.proofs.Common.{subst, mul-le-mul_right, arith}
 use Rattle.regular.specs.Runs.{Runs}
 use Rattle.regular.specs.Columns.{plan_of}
 use Rattle.regular.specs.Pattern.{Pattern}
 use Rattle.regular.specs.Refusals.{Lowest, columns_faults}
-use Rattle.regular.specs.RefusalLaws.{lowest_unique}
+use Rattle.regular.specs.RefusalLaws.{lowest_unique, number_positive}
 use Rattle.regular.specs.PlanBytes.{plan_at, plan_count, mask_in}
 use Rattle.regular.specs.PlanLists.{wanted_plans_faults}
 use Rattle.regular.specs.Smallest.{Equal}
 use Rattle.regular.specs.Given.{Given, of_columns}
-use Rattle.regular.specs.declared.Admitted.{Admitted}
+use Rattle.regular.specs.Answers.{Admitted, admitted_of}
+use Rattle.regular.specs.declared.AcceptedPlan.{AcceptedPlan}
+use Rattle.regular.specs.declared.Refusal.{Refusal}
 use Rattle.words.specs.Switches.{pattern_switched}
 use Rattle.admission.specs.Admission.{Admission, Ready, ready}
 use Rattle.measures.specs.Measured.{pattern_given}
@@ -20,6 +22,11 @@ use Rattle.regular.specs.Book.{columns_record, entry_length, book_length}
 use Rattle.book.specs.Writing.{standard_entry, PutEntry, Written, plan_entry}
 use Rattle.book.specs.EntryLaws.{columns_same, entry_like}
 use Rattle.book.specs.WritingLaws.{written_more, written_size, entry_room_lem}
+
+-- an answer with the number 0 is an accepted plan
+pub admitted_ok : (r : Result AcceptedPlan Refusal) → (admitted_of r).number ≡ 0 → IsOk r
+admitted_ok (Ok p) e = refl
+admitted_ok (Err f) e = absurd (omega (arith, number_positive f))
 
 -- a plan without faults is admitted
 module _ {n g : ℕ} {p : Given} {x : Admitted} (l : Lowest p.faults 0) (ad : Admission n g p x) where
@@ -56,6 +63,9 @@ module _ (n g r : ℕ) (plans : List ℕ) (ok : AcceptedPlans n g r plans) (v : 
     module _ {plan : List ℕ} {a : Admitted} (e : plan ≡ plan_at n plans i) (ad : Admission n g (of_columns n g plan) a) where
       plans_admitted : Admission n g (of_columns n g (plan_at n plans i)) a
       plans_admitted = subst (λ (l : List ℕ). Admission n g (of_columns n g l) a) e ad
+
+      pub plans_admitted_none : a.number ≡ 0
+      plans_admitted_none = admitted_none plans_lowest plans_admitted
 
       pub plans_ready : Ready n g a.columns
       plans_ready = admitted_ready plans_lowest plans_admitted

@@ -1,6 +1,7 @@
 -- Laws of what each part of the writer puts: a number, the header, the columns, one count more, an entry; and the lengths that fit.
-use Rattle.std.specs.Prelude.{ℕ, zero, suc, ◌+◌, ◌*◌, ◌-◌, ◌≤◌, ◌<◌, ◌≡◌, refl, List, [], ◌∷◌, ◌++◌, length, get_or, take, drop, set}
-use Rattle.std.proofs.Common.{sym, ap, ◌∙◌, arith, length-set, take-suc}
+use Rattle.std.specs.Prelude.{ℕ, zero, suc, ◌+◌, ◌*◌, ◌-◌, ◌^◌, ◌≤◌, ◌<◌, ◌≡◌, refl, List, [], ◌∷◌, ◌++◌, length, get_or, take, drop, set}
+use Rattle.std.specs.Int.{w16, to_le_bytes}
+use Rattle.std.proofs.Common.{sym, ap, ap₂, ◌∙◌, arith, length-set, take-suc, append_assoc, drop-drop}
 use Rattle.std.proofs.Math.Seq.{paste}
 use Rattle.std.proofs.lemmas.List.Edits.{length-paste}
 use Rattle.regular.specs.Pattern.{of_length}
@@ -13,6 +14,18 @@ use Rattle.book.specs.EntryLaws.{each_more, each_none, columns_bytes, counts_byt
 pub number_put : (at a b : ℕ) (v : List ℕ) → at + 2 ≤ length v → set (set v at a) (at + 1) b ≡ over at (a ∷ b ∷ []) v
 number_put at a b v h =
     ap (λ (l : List ℕ). set l (at + 1) b) (sym (over_one at a v (omega arith))) ∙ put_more at 1 b (a ∷ []) v refl (omega arith)
+
+-- .. as the library makes them, and as it copies them
+pub le_bytes_two : (x : ℕ) → x < 2 ^ 16 → to_le_bytes w16 x ≡ low_first x
+le_bytes_two x h = ap₂ (λ (a b : ℕ). a ∷ b ∷ []) (omega arith) (omega arith)
+
+pub number_copied : (at x : ℕ) (v bytes : List ℕ) → x < 2 ^ 16 → at + 2 ≤ length v → bytes ≡ to_le_bytes w16 x
+    → take at v ++ (bytes ++ drop (at + 2 - at) (drop at v)) ≡ over at (low_first x) v
+number_copied at x v bytes h room e =
+    let end : at + (at + 2 - at) ≡ at + 2 = omega arith in
+    ap₂ (λ (b l : List ℕ). take at v ++ (b ++ l)) (e ∙ le_bytes_two x h) (drop-drop (at + 2 - at) at v ∙ ap (λ (k : ℕ). drop k v) end)
+    ∙ sym (append_assoc (take at v) (low_first x) (drop (at + 2) v))
+    ∙ sym (over_parts at (low_first x) v (omega arith))
 
 -- the header's first four bytes
 abbrev pub headed : ℕ → ℕ → ℕ → List ℕ → List ℕ

@@ -6,18 +6,18 @@ ghost use Rattle.regular.specs.Pattern.{of_length};
 ghost use Rattle.regular.specs.PlanBytes.{plan_count};
 ghost use Rattle.regular.specs.Refusals.{Lowest, design_faults};
 ghost use Rattle.plan_lists.specs.Accepted.{AcceptedPlans};
-ghost use Rattle.regular.specs.Book.{low_first, each, header, header_length, entry_records, entry_length};
+ghost use Rattle.regular.specs.Book.{low_first, each, header, header_length, entry_records, entry_length, entry_of_design};
 ghost use Rattle.regular.specs.Book.{book_length, most_plans, CountFault, WritesPlans, WritesDesigns};
 ghost use Rattle.admission.specs.Admission.{Ready};
 ghost use Rattle.book.specs.Over.{over};
-ghost use Rattle.book.specs.Writing.{standard_entry, PutEntry, BookRefusal, Opened, EntryAdded, Written, plan_entry};
+ghost use Rattle.regular.specs.Answers.{refusal_of};
+ghost use Rattle.std.specs.Result.{result_unwrap_or};
+ghost use Rattle.book.specs.Writing.{standard_entry, PutEntry, BookRefusal, Opened, Written, plan_entry};
 
-use admission::lower_of;
-use book_layout::{
-    BYTE_VALUES, COLUMNS_KIND, HEADER_KIND, HEADER_LENGTH, PATTERN_KIND, book_length,
-};
+use admission::{Bytes, Form, both};
+use book_layout::{COLUMNS_KIND, HEADER_KIND, HEADER_LENGTH, PATTERN_KIND, book_length};
 use plan_layout::{columns_at, plan_at, plan_count};
-use regular::{BookAnswer, Design, FACTORS};
+use regular::{Design, FACTORS, Refusal};
 
 // The most plans that the header can count.
 const MOST_PLANS: usize = 65535;
@@ -27,8 +27,7 @@ fn put_number(x: u16, at: usize, out: &mut [u8])
     requires { at + 2 ≤ length out.old }
     ensures { out.new ≡ over at (low_first x) out.old }
 {
-    out[at] = (x % BYTE_VALUES) as u8;
-    out[at + 1] = (x / BYTE_VALUES) as u8;
+    out[at..at + 2].copy_from_slice(&x.to_le_bytes());
 }
 
 // The header.
@@ -49,13 +48,10 @@ fn put_counts(n: usize, counts: [u16; FACTORS], at: usize, out: &mut [u8]) -> us
     ensures { (out.new ≡ over at (each (λ i. low_first (of_length counts (3 + i))) (n - 2)) out.old)
         × (result ≡ at + 2 * (n - 2)) }
 {
-    let mut i: usize = 2;
     let mut to = at;
-    while i < n {
-        let x = counts[i];
-        put_number(x, to, out);
+    for i in 2..n {
+        put_number(counts[i], to, out);
         to += 2;
-        i += 1;
     }
     to
 }
@@ -94,45 +90,45 @@ fn put_plan(
     put_entry(n, columns, counts, at, out)
 }
 
-// 4 if there are more plans than the header can count.
-fn many(count: usize) -> u8
-    ensures { Lowest (CountFault count) result }
+// Refused if there are more plans than the header can count.
+fn check_count(count: usize) -> Result<(), Refusal>
+    ensures { Lowest (CountFault count) (refusal_of result) }
 {
     if MOST_PLANS < count {
-        return 4;
+        return Err(Refusal::Count);
     }
-    0
+    Ok(())
 }
 
-// The call's refusal: by the plans' number or their count, then 8 if the lent bytes are too few.
-fn refusal(n: usize, count: usize, number: u8, places: usize) -> u8
-    requires { number ≡ 0 → n ≤ 16 }
-    ensures { BookRefusal n count number places result }
+// The call's refusal: that of the plans or of their count, then that of too few lent bytes.
+fn check_book(
+    n: usize,
+    count: usize,
+    plans: Result<(), Refusal>,
+    places: usize,
+) -> Result<(), Refusal>
+    requires { refusal_of plans ≡ 0 → n ≤ 16 }
+    ensures { BookRefusal n count (refusal_of plans) places (refusal_of result) }
 {
-    let low = lower_of(number, many(count));
-    if low != 0 {
-        return low;
-    }
-    lent::lending(low, book_length(n, count), places)
+    both(plans, check_count(count))?;
+    lent::lending(Ok(()), book_length(n, count), places)
 }
 
-// The header, if nothing is refused; the answer's count is the place after it.
-fn begin(n: usize, g: usize, r: usize, count: usize, number: u8, out: &mut [u8]) -> BookAnswer
-    requires { number ≡ 0 → ((n ≤ 16) × (g ≤ 16) × (r ≤ 16)) }
-    ensures { Opened n g r count number out.old out.new result.number result.count }
+// The header, if nothing is refused; and the place after it.
+fn begin(
+    n: usize,
+    g: usize,
+    r: usize,
+    count: usize,
+    plans: Result<(), Refusal>,
+    out: &mut [u8],
+) -> Result<usize, Refusal>
+    requires { refusal_of plans ≡ 0 → ((n ≤ 16) × (g ≤ 16) × (r ≤ 16)) }
+    ensures { Opened n g r count (refusal_of plans) out.old out.new (refusal_of result) (result_unwrap_or result 0) }
 {
-    let refused = refusal(n, count, number, out.len());
-    if refused != 0 {
-        return BookAnswer {
-            number: refused,
-            count: 0,
-        };
-    }
+    check_book(n, count, plans, out.len())?;
     put_header(n, g, r, count, out);
-    BookAnswer {
-        number: 0,
-        count: HEADER_LENGTH,
-    }
+    Ok(HEADER_LENGTH)
 }
 
 // The entries of all plans, after the header; and the place after them.
@@ -140,49 +136,37 @@ fn put_plans(n: usize, g: usize, plans: &[u8], out: &mut [u8]) -> usize
     requires { ((r : ℕ) × AcceptedPlans n g r plans.now) × (book_length n (plan_count n (length plans.now)) ≤ length out.old) }
     ensures { Written n (plan_entry n g plans.now) (plan_count n (length plans.now)) out.old out.new result }
 {
-    let count = plan_count(n, plans.len());
-    let mut i: usize = 0;
     let mut at = HEADER_LENGTH;
-    while i < count {
-        let plan = admission::admit_columns(n, g, plan_at(n, plans, i));
-        let columns = columns_at(n, plans, i);
-        let standard = plan.columns;
-        at = put_plan(n, g, columns, standard, at, out);
-        i += 1;
+    for i in 0..plan_count(n, plans.len()) {
+        let plan = Bytes(plan_at(n, plans, i)).admit(n, g).unwrap();
+        at = put_plan(n, g, columns_at(n, plans, i), plan.columns, at, out);
     }
     at
 }
 
-// The book of plans given as bytes.
-pub fn write_book(n: usize, g: usize, r: usize, plans: &[u8], out: &mut [u8]) -> BookAnswer
-    ensures { WritesPlans n g r plans.now out.old out.new result.number result.count }
+// The book of plans given as bytes; says how many bytes it takes.
+pub fn write_book(
+    n: usize,
+    g: usize,
+    r: usize,
+    plans: &[u8],
+    out: &mut [u8],
+) -> Result<usize, Refusal>
+    ensures { WritesPlans n g r plans.now out.old out.new (refusal_of result) (result_unwrap_or result 0) }
 {
-    let number = plan_lists::plans_refusal(n, g, r, true, plans);
+    let judged = plan_lists::check_plans(n, g, r, true, plans);
     let count = plan_count(n, plans.len());
-    let begun = begin(n, g, r, count, number, out);
-    if begun.number != 0 {
-        return begun;
-    }
-    let used = put_plans(n, g, plans, out);
-    BookAnswer {
-        number: 0,
-        count: used,
-    }
+    begin(n, g, r, count, judged, out)?;
+    Ok(put_plans(n, g, plans, out))
 }
 
-// One record's entry more, if nothing was refused.
-fn add(n: usize, g: usize, design: Design, answer: BookAnswer, out: &mut [u8]) -> BookAnswer
-    requires { answer.number ≡ 0 → (Lowest (design_faults n g design) 0 × (answer.count + entry_length n ≤ length out.old)) }
-    ensures { EntryAdded n g design answer.number answer.count out.old out.new result.number result.count }
+// The entry of a design record; and the place after it.
+fn put_design(n: usize, g: usize, design: Design, at: usize, out: &mut [u8]) -> usize
+    requires { Lowest (design_faults n g design) 0 × (at + entry_length n ≤ length out.old) }
+    ensures { PutEntry n (entry_of_design n g design) at out.old out.new result }
 {
-    if answer.number != 0 {
-        return answer;
-    }
-    let plan = admission::admit_design(n, g, design);
-    let columns = design.columns;
-    let standard = plan.columns;
-    let count = put_plan(n, g, columns, standard, answer.count, out);
-    BookAnswer { number: 0, count }
+    let plan = design.admit(n, g).unwrap();
+    put_plan(n, g, design.columns, plan.columns, at, out)
 }
 
 // The book of a list of design records.
@@ -192,16 +176,13 @@ pub fn write_book_of_designs(
     r: usize,
     list: &[Design],
     out: &mut [u8],
-) -> BookAnswer
-    ensures { WritesDesigns n g r list.now out.old out.new result.number result.count }
+) -> Result<usize, Refusal>
+    ensures { WritesDesigns n g r list.now out.old out.new (refusal_of result) (result_unwrap_or result 0) }
 {
-    let number = plan_lists::records_refusal(n, g, r, true, list);
-    let mut answer = begin(n, g, r, list.len(), number, out);
-    let mut i: usize = 0;
-    while i < list.len() {
-        let d = list[i];
-        answer = add(n, g, d, answer, out);
-        i += 1;
+    let judged = plan_lists::check_records(n, g, r, true, list);
+    let mut at = begin(n, g, r, list.len(), judged, out)?;
+    for d in list {
+        at = put_design(n, g, *d, at, out);
     }
-    answer
+    Ok(at)
 }

@@ -1,26 +1,22 @@
 -- Laws of the loop over design records. Assumes nothing.
-use mathlib.Core.Path.{◌≡◌, refl, sym, ap, subst, ◌∙◌}
-use mathlib.Core.Logic.{by_cases}
-use mathlib.Core.Bool.{Bool, true, false, not}
-use mathlib.Core.List.{List, []}
-use Prim.Native.Nat.{ℕ, ◌+◌, ◌-◌, ◌≤◌, ◌<◌}
-use native.Mathlib.Decide.{ℕ_discrete}
-use native.Mathlib.Omega.{arith}
+use Rattle.std.proofs.Common.{◌≡◌, refl, sym, ap, subst, ◌∙◌, List, [], ℕ, ◌+◌, ◌-◌, ◌≤◌, ◌<◌, length, get_or}
+use Rattle.std.proofs.Common.{Bool, true, false, not}
+use Rattle.std.proofs.Common.{drop, set, arith, length-set, get_or-set_same, get_or-set_other}
+use Rattle.std.proofs.Math.Logic.{by_cases}
+use Rattle.std.proofs.Math.Decide.{ℕ_discrete}
+use Rattle.std.proofs.Math.Seq.{drop-set-lt, drop-drop}
+use Rattle.std.proofs.Math.Dec.{T, ltb}
 use borrow.Author.Tests.{ltb-true, ltb-false}
-use lib.Dec.{T, ltb}
-use lib.ListN.{length, get_or, drop, set, length-set}
-use lib.Seq.{get_or-set_same, get_or-set_other, drop-set-lt, drop-drop}
 use Rattle.gf2.specs.Truth.{clash}
 use Rattle.regular.specs.Designs.{Holds, design_of, blank, design_holds}
 use Rattle.regular.specs.declared.Design.{Design}
+use Rattle.regular.specs.declared.CatalogueAnswer.{CatalogueAnswer}
 use Rattle.regular.specs.Smallest.{Entry}
 use Rattle.entries.specs.declared.WalkState.{WalkState}
 use Rattle.entries.specs.Tracing.{StateOf}
-use Rattle.catalogue.specs.declared.NextStop.{NextStop}
-use Rattle.catalogue.specs.declared.Stop.{Stop}
 use Rattle.regular.specs.Catalogues.{ListsDesigns}
-use Rattle.catalogue.specs.Turns.{Turned}
-use Rattle.catalogue.specs.Records.{StepAnswers, FillingRecords}
+use Rattle.catalogue.specs.Turns.{NextFound, Stops, Turned}
+use Rattle.catalogue.specs.Records.{FillingRecords}
 use Rattle.catalogue.proofs.Turns.{with_entry, with_same, with_other, progress_none, progress_more, stopped}
 
 pub holds : (t : Bool) → T t → t ≡ true
@@ -31,25 +27,27 @@ pub fails : (t : Bool) → T (not t) → t ≡ false
 fails true a = absurd a
 fails false _ = refl
 
+-- what a turn of the loop gives: if it found, the next entry's record and the state to it; else the answer, where the list ends
+pub record StepAnswers (n g r i len : ℕ) (c : List ℕ) (found : Bool) (design : Design) (state : WalkState) (answer : CatalogueAnswer) : Type 0 where
+  pub goes : found ≡ true → NextFound n g r i (ltb i len) c design.columns state
+  pub made : found ≡ true → design ≡ design_of n (n - g) design.columns
+  pub stops : found ≡ false → Stops n g r i (ltb i len) c answer.number
+  pub count : answer.count ≡ i
+
 -- what a turn answers
-module _ (n g r i len : ℕ) (c : Stop) where
-  pub stepped_stops : (found : Bool) (number : ℕ) (d : List ℕ) (w : WalkState) → Turned n g r i (ltb i len) c.design.columns found number d w
-      → found ≡ false
-      → StepAnswers n g r i len c (record { found = false; stop = c; answer = record { number = number; count = i } })
-  stepped_stops found number d w t e = record {
+module _ (n g r i len : ℕ) (c : List ℕ) where
+  pub stepped_stops : (found : Bool) (number : ℕ) (d : List ℕ) (w : WalkState) → Turned n g r i (ltb i len) c found number d w → found ≡ false
+      → (kept : Design) (state : WalkState) → StepAnswers n g r i len c false kept state (record { number = number; count = i })
+  stepped_stops found number d w t e kept state = record {
     goes = λ q. absurd (clash q refl);
     made = λ q. absurd (clash q refl);
     stops = λ _. t.stops e;
     count = refl;
   }
 
-  -- what a turn that finds the record d answers
-  abbrev found_answer : Design → WalkState → NextStop
-  found_answer d w = record { found = true; stop = record { design = d; state = w }; answer = record { number = 0; count = i } }
-
   pub stepped_goes : (found : Bool) (number : ℕ) (d : List ℕ) (w : WalkState) (made : Design) → made ≡ design_of n (n - g) d
-      → Turned n g r i (ltb i len) c.design.columns found number d w → found ≡ true → StepAnswers n g r i len c (found_answer made w)
-  stepped_goes found number d w made p t e = subst (λ (x : Design). StepAnswers n g r i len c (found_answer x w)) (sym p) (record {
+      → Turned n g r i (ltb i len) c found number d w → found ≡ true → StepAnswers n g r i len c true made w (record { number = 0; count = i })
+  stepped_goes found number d w made p t e = subst (λ (x : Design). StepAnswers n g r i len c true x w (record { number = 0; count = i })) (sym p) (record {
     goes = λ _. t.goes e;
     made = λ _. refl;
     stops = λ y. absurd (clash refl y);
@@ -57,50 +55,49 @@ module _ (n g r i len : ℕ) (c : Stop) where
   })
 
 -- the loop
-pub listing_none : (n g r : ℕ) (ys : List Design) (c : Stop) → StateOf 0 [] c.state → FillingRecords n g r ys ys 0 c
-listing_none n g r ys c h = record {
+pub listing_none : (n g r : ℕ) (ys : List Design) (c : List ℕ) (state : WalkState) → StateOf 0 [] state → FillingRecords n g r ys ys 0 c state
+listing_none n g r ys c state h = record {
   all = λ _. [];
-  progress = progress_none n g r (λ _. []) c.design.columns c.state h;
+  progress = progress_none n g r (λ _. []) c state h;
   room = omega arith;
   size = refl;
   records = λ j h. absurd (omega arith);
   rest = refl;
 }
 
-module _ (n g r : ℕ) (ys zs : List Design) (i : ℕ) (c : Stop) (x : FillingRecords n g r ys zs i c) (s : NextStop)
-    (t : StepAnswers n g r i (length ys) c s) where
-  pub listing_room : s.found ≡ true → i < length ys
-  listing_room e = ltb-true i (length ys) (t.goes e).room
+module _ (n g r : ℕ) (ys zs : List Design) (i : ℕ) (c : List ℕ) (state : WalkState) (x : FillingRecords n g r ys zs i c state) where
+  pub listing_room : (d : List ℕ) (next : WalkState) → NextFound n g r i (ltb i (length ys)) c d next → i < length ys
+  listing_room d next t = ltb-true i (length ys) t.room
 
-  pub listing_more : s.found ≡ true → FillingRecords n g r ys (set zs i s.stop.design) (i + 1) s.stop
-  listing_more e =
-      let d = s.stop.design in
-      let zs' = set zs i d in
-      let h = listing_room e in
-      let new : get_or zs' i blank ≡ d = get_or-set_same zs i d blank (omega (arith, x.size)) in
-      let old : (j : ℕ) → (j ≡ i → ⊥) → get_or zs' j blank ≡ get_or zs j blank = λ j ne. get_or-set_other zs i j d blank ne in
-      let all = with_entry x.all i d.columns in
+  pub listing_more : (d : List ℕ) (next : WalkState) (made : Design) → NextFound n g r i (ltb i (length ys)) c d next → made ≡ design_of n (n - g) d
+      → FillingRecords n g r ys (set zs i made) (i + 1) d next
+  listing_more d next made t e =
+      let zs' = set zs i made in
+      let h = listing_room d next t in
+      let new : get_or zs' i blank ≡ made = get_or-set_same zs i made blank (omega (arith, x.size)) in
+      let old : (j : ℕ) → (j ≡ i → ⊥) → get_or zs' j blank ≡ get_or zs j blank = λ j ne. get_or-set_other zs i j made blank ne in
+      let all = with_entry x.all i d in
       record {
         all = all;
-        progress = progress_more n g r i x.all (ltb i (length ys)) c.design.columns d.columns c.state s.stop.state x.progress (t.goes e);
+        progress = progress_more n g r i x.all (ltb i (length ys)) c d state next x.progress t;
         room = omega arith;
-        size = length-set zs i d ∙ x.size;
+        size = length-set zs i made ∙ x.size;
         records = λ j l. by_cases (ℕ_discrete j i)
             (λ q. subst (λ (k : ℕ). get_or zs' k blank ≡ design_of n (n - g) (all k)) (sym q)
-            (new ∙ t.made e ∙ ap (design_of n (n - g)) (sym (with_same x.all i d.columns))))
-            (λ ne. old j ne ∙ x.records j (omega arith) ∙ ap (design_of n (n - g)) (sym (with_other x.all i d.columns j ne)));
-        rest = drop-set-lt (i + 1) zs i d (omega arith) ∙ sym (drop-drop 1 i zs) ∙ ap (drop 1) x.rest ∙ drop-drop 1 i ys;
+            (new ∙ e ∙ ap (design_of n (n - g)) (sym (with_same x.all i d))))
+            (λ ne. old j ne ∙ x.records j (omega arith) ∙ ap (design_of n (n - g)) (sym (with_other x.all i d j ne)));
+        rest = drop-set-lt (i + 1) zs i made (omega arith) ∙ sym (drop-drop 1 i zs) ∙ ap (drop 1) x.rest ∙ drop-drop 1 i ys;
       }
 
-  pub listing_stops : s.found ≡ false → ListsDesigns n g r ys zs s.answer.number s.answer.count
-  listing_stops e = subst (λ (k : ℕ). ListsDesigns n g r ys zs s.answer.number k) (sym t.count) (record {
-    catalogues = stopped n g r (λ k. k ≤ length ys) (λ a b h l. omega arith) i x.all c.design.columns c.state x.progress x.room
+  pub listing_stops : (number : ℕ) → Stops n g r i (ltb i (length ys)) c number → ListsDesigns n g r ys zs number i
+  listing_stops number s = record {
+    catalogues = stopped n g r (λ k. k ≤ length ys) (λ a b h l. omega arith) i x.all c state x.progress x.room
         (λ j. (get_or zs j blank).columns)
-        (λ j h f l. ap (λ (y : Design). get_or y.columns f 0) (sym (x.records j h))) s.answer.number (ltb i (length ys))
-        (λ _ q l. omega (arith, ltb-false i (length ys) q)) (t.stops e);
+        (λ j h f l. ap (λ (y : Design). get_or y.columns f 0) (sym (x.records j h))) number (ltb i (length ys))
+        (λ _ q l. omega (arith, ltb-false i (length ys) q)) s;
     records = λ j h.
         let b = (x.progress.begun j h).held in
         subst (Holds n (n - g) (Entry n (n - g) r)) (sym (x.records j h)) (design_holds n (n - g) (Entry n (n - g) r) (x.all j) b.entry b.rest);
     rest = x.rest;
     size = x.size;
-  })
+  }

@@ -1,6 +1,7 @@
 -- What a turn of the catalogue's loop needs and answers. Definitions only.
-use Rattle.std.specs.Prelude.{◌≡◌, Bool, true, false, List, [], ℕ, ◌-◌, ◌≤◌, ◌<◌, ltb, length, drop}
+use Rattle.std.specs.Prelude.{◌≡◌, Bool, true, false, List, [], ℕ, ◌-◌, ◌≤◌, ◌<◌, ltb, length, drop, replicate, Option, Some, None, Result, Ok, Err}
 use Rattle.regular.specs.PlanBytes.{plan_start, plan_at, mask_in}
+use Rattle.regular.specs.declared.Refusal.{Refusal}
 use Rattle.regular.specs.Refusals.{Lowest, size_faults}
 use Rattle.regular.specs.Smallest.{Equal, Entry}
 use Rattle.smallest_laws.specs.Value.{value}
@@ -32,6 +33,17 @@ pub data Stops (n g r i : ℕ) (room : Bool) (c : List ℕ) : ℕ → Type 0 whe
   refused : (k : ℕ) → 0 < k → k ≤ 3 → Lowest (size_faults n g r) k → Stops n g r i room c k
   ended : Sized n g r → ((e : List ℕ) → Entry n (n - g) r e → from i n c ≤ value n e → ⊥) → Stops n g r i room c 0
   full : Sized n g r → room ≡ false → (d : List ℕ) → FirstEntry n (n - g) r (from i n c) d → Stops n g r i room c 9
+
+-- what a turn hands out: whether it found an entry, the answer's number if it did not, and the entry's columns; zeros if there is none
+abbrev pub turn_found : Result (Option (List ℕ)) Refusal → Bool
+turn_found (Ok (Some d)) = true
+turn_found (Ok None) = false
+turn_found (Err e) = false
+
+abbrev pub turn_columns : Result (Option (List ℕ)) Refusal → List ℕ
+turn_columns (Ok (Some d)) = d
+turn_columns (Ok None) = replicate 16 0
+turn_columns (Err e) = replicate 16 0
 
 pub record Turned (n g r i : ℕ) (room : Bool) (c : List ℕ) (found : Bool) (number : ℕ) (d : List ℕ) (state : WalkState) : Type 0 where
   pub goes : found ≡ true → NextFound n g r i room c d state

@@ -1,11 +1,9 @@
 // From columns to their standard columns, their run table, the mask of a run, and whether one is 0 or stands twice.
 #![tactic(auto)]
 
-ghost use Rattle.std.specs.Prelude.{◌≡◌, true, false, ℕ, ◌*◌, ◌^◌, ◌<◌, ◌≤◌, length, get_or};
-ghost use Rattle.std.specs.Int.Bits.{bit_xor};
+ghost use Rattle.std.specs.Prelude.{◌≡◌, true, false, ℕ, ◌^◌, ◌<◌, ◌≤◌, length, get_or, replicate, is_some};
+ghost use Rattle.std.specs.Option.{unwrap_or};
 ghost use Rattle.gf2.specs.Answers.{Tells};
-ghost use Rattle.gf2.specs.Digits.{bit};
-ghost use Rattle.gf2.specs.Doubling.{Doubling};
 ghost use Rattle.regular.specs.Columns.{plan_of, Below, Spans, RunTable, RunTableWith, run_of, Allowed};
 ghost use Rattle.standard.specs.Form.{DistinctNonzero, Repeat};
 ghost use Rattle.standard.specs.Finding.{StandardFound};
@@ -13,20 +11,18 @@ ghost use Rattle.signs.specs.Masks.{MaskOf};
 ghost use Rattle.column_forms.specs.Tables.{SumsGrown};
 ghost use Rattle.column_forms.specs.Walk.{WalkEnded};
 
-use regular::{FACTORS, NUMBERS, Standardized};
+use regular::{FACTORS, NUMBERS};
 
 // Twice as many sums of columns, by the column c: place half + k holds the sum at place k with c, and places finds it again.
 pub fn double(c: u8, half: usize, sums: &mut [u8; NUMBERS], places: &mut [u8; NUMBERS])
     requires { (half ≤ 64) × (c < 128) × (length sums.old ≡ 128) × (length places.old ≡ 128) × ((k : ℕ) → k < half → get_or sums.old k 0 < 128) }
     ensures { SumsGrown c half half sums.old places.old sums.new places.new }
 {
-    let mut k: usize = 0;
-    while k < half {
+    for k in 0..half {
         let v = sums[k] ^ c;
         sums[half + k] = v;
-        let z = bits::as_index(v);
+        let z = usize::from(v);
         places[z] = (half + k + 1) as u8;
-        k += 1;
     }
 }
 
@@ -46,39 +42,31 @@ fn walk(n: usize, m: usize, cols: [u8; FACTORS]) -> Walked
     let mut sums = [0u8; NUMBERS];
     let mut places = [0u8; NUMBERS];
     places[0] = 1;
-    let mut half: usize = 1;
-    let mut f: usize = 0;
-    while f < n {
+    let mut half = 1;
+    for f in 0..n {
         let c = cols[f];
-        let z = bits::as_index(c);
-        let p = places[z];
+        let p = places[usize::from(c)];
         if p != 0 {
             columns[f] = p - 1;
-            f += 1;
-            continue;
+        } else {
+            columns[f] = half as u8;
+            double(c, half, &mut sums, &mut places);
+            half += half;
         }
-        columns[f] = half as u8;
-        double(c, half, &mut sums, &mut places);
-        half += half;
-        f += 1;
     }
     Walked { half, columns }
 }
 
 // The standard columns of the plan of the columns, found exactly if they have rank m.
-pub fn standardize(n: usize, m: usize, cols: [u8; FACTORS]) -> Standardized
+pub fn standardize(n: usize, m: usize, cols: [u8; FACTORS]) -> Option<[u8; FACTORS]>
     requires { (n ≤ 16) × (m ≤ 7) × Below n m cols }
-    ensures { StandardFound n m (Spans n m cols) (plan_of n m cols) result.ok result.columns }
+    ensures { StandardFound n m (Spans n m cols) (plan_of n m cols) (is_some result) (unwrap_or result (replicate 16 0)) }
 {
     let w = walk(n, m, cols);
-    if w.half != 1 << m {
-        return Standardized {
-            ok: false,
-            columns: [0u8; FACTORS],
-        };
+    if w.half != bits::power(m) {
+        return None;
     }
-    let columns = w.columns;
-    Standardized { ok: true, columns }
+    Some(w.columns)
 }
 
 // Whether no column is 0 and none stands twice.
@@ -88,14 +76,12 @@ pub fn distinct_nonzero(n: usize, cols: [u8; FACTORS]) -> bool
 {
     let mut seen = [0u8; NUMBERS];
     seen[0] = 1;
-    let mut f: usize = 0;
-    while f < n {
-        let z = bits::as_index(cols[f]);
+    for f in 0..n {
+        let z = usize::from(cols[f]);
         if seen[z] != 0 {
             return false;
         }
         seen[z] = 1;
-        f += 1;
     }
     true
 }
@@ -106,26 +92,11 @@ pub fn unit_run(n: usize, d: usize, cols: [u8; FACTORS]) -> u16
     ensures { result ≡ run_of cols n (2 ^ d) }
 {
     let mut w: u16 = 0;
-    let mut f: usize = 0;
-    while f < n {
-        let x = bits::level(cols[f] as u16, d);
-        w = w | (x << f);
-        f += 1;
+    for f in 0..n {
+        let x = bits::level(u16::from(cols[f]), d);
+        w |= x << f;
     }
     w
-}
-
-// Twice as many runs, by the run u: place half + k holds the run at place k exclusive-or u.
-fn copy_runs(u: u16, half: usize, t: &mut [u16; NUMBERS])
-    requires { (half ≤ 64) × (length t.old ≡ 128) }
-    ensures { Doubling u half half t.old t.new }
-{
-    let mut k: usize = 0;
-    while k < half {
-        let x = t[k] ^ u;
-        t[half + k] = x;
-        k += 1;
-    }
 }
 
 // The run table of the columns: run j at place j, the unused places zero.
@@ -134,13 +105,11 @@ pub fn run_table(n: usize, m: usize, cols: [u8; FACTORS]) -> [u16; NUMBERS]
     ensures { RunTable n m cols result }
 {
     let mut t = [0u16; NUMBERS];
-    let mut half: usize = 1;
-    let mut d: usize = 0;
-    while d < m {
+    let mut half = 1;
+    for d in 0..m {
         let u = unit_run(n, d, cols);
-        copy_runs(u, half, &mut t);
+        bits::double(u, half, &mut t);
         half += half;
-        d += 1;
     }
     t
 }
@@ -151,12 +120,8 @@ pub fn switched_table(n: usize, m: usize, cols: [u8; FACTORS], mask: u16) -> [u1
     ensures { RunTableWith n m cols mask result }
 {
     let mut t = run_table(n, m, cols);
-    let end = bits::power(m);
-    let mut j: usize = 0;
-    while j < end {
-        let x = t[j] ^ mask;
-        t[j] = x;
-        j += 1;
+    for j in 0..bits::power(m) {
+        t[j] ^= mask;
     }
     t
 }
@@ -167,31 +132,18 @@ pub fn mask_of(n: usize, columns: [u8; FACTORS], x: u16) -> u16
     ensures { MaskOf n columns x result }
 {
     let mut mask = x;
-    let mut unit: usize = 1;
-    let mut d: usize = 0;
-    let mut f: usize = 0;
-    while f < n {
-        if bits::as_index(columns[f]) != unit {
-            f += 1;
-            continue;
+    let mut unit = 1;
+    let mut d = 0;
+    for f in 0..n {
+        if usize::from(columns[f]) == unit {
+            if bits::level(mask, f) == 1 {
+                mask ^= unit_run(n, d, columns);
+            }
+            unit += unit;
+            d += 1;
         }
-        mask = clear(n, d, columns, f, mask);
-        unit += unit;
-        d += 1;
-        f += 1;
     }
     mask
-}
-
-// x, with run 2^d of the columns if factor f is low in it.
-fn clear(n: usize, d: usize, columns: [u8; FACTORS], f: usize, x: u16) -> u16
-    requires { (n ≤ 16) × (d < 16) × (f < 16) }
-    ensures { result ≡ bit_xor x (run_of columns n (2 ^ d) * bit f x) }
-{
-    if bits::level(x, f) == 0 {
-        return x;
-    }
-    x ^ unit_run(n, d, columns)
 }
 
 // Whether a mask is allowed with the columns, of whatever rank: it is zero past factor n and where a column is no sum of those before it.
@@ -202,10 +154,9 @@ pub fn allows(n: usize, m: usize, cols: [u8; FACTORS], mask: u16) -> bool
     if mask == 0 {
         return true;
     }
-    if bits::power(n) <= bits::wide(mask) {
+    if bits::power(n) <= usize::from(mask) {
         return false;
     }
-    let w = walk(n, m, cols);
-    let columns = w.columns;
+    let columns = walk(n, m, cols).columns;
     mask_of(n, columns, mask) == mask
 }

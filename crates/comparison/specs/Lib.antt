@@ -1,3 +1,4 @@
 pub mod Matching
 pub mod Deciding
 pub mod Settling
+pub mod Parts

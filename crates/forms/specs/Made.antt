@@ -11,7 +11,7 @@ use Rattle.regular.specs.Smallest.{Equal}
 use Rattle.regular.specs.Refusals.{Gives, LentFault, either, Fills}
 use Rattle.regular.specs.Given.{Given, GivesFor, FillsFor}
 use Rattle.regular.specs.Forms.{StandardDesign, StandardInto, WordsInto}
-use Rattle.regular.specs.declared.Admitted.{Admitted}
+use Rattle.regular.specs.Answers.{Admitted}
 use Rattle.regular.specs.declared.Design.{Design}
 use Rattle.regular.specs.declared.SignsAnswer.{SignsAnswer}
 use Rattle.standard.specs.Runs.{run_cols}

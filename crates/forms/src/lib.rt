@@ -1,164 +1,86 @@
 // Words, columns and run tables turned into each other.
 #![tactic(auto)]
 
-ghost use Rattle.std.specs.Prelude.{◌≡◌, ◌-◌, ◌^◌, ◌≤◌, replicate};
+ghost use Rattle.std.specs.Prelude.{◌≡◌, ◌-◌, ◌^◌, replicate};
+ghost use Rattle.std.specs.Result.{result_unwrap_or};
+ghost use Rattle.regular.specs.Answers.{refusal_of, signs_answer};
 ghost use Rattle.regular.specs.Sizes.{Size};
 ghost use Rattle.regular.specs.Columns.{ListedWith, RunTableWith, RunsOfPlan};
-ghost use Rattle.regular.specs.PlanBytes.{plan_bytes, mask_in};
-ghost use Rattle.regular.specs.Smallest.{Equal};
-ghost use Rattle.regular.specs.Given.{of_words, of_runs, of_design, of_columns, GivesFor, FillsFor};
+ghost use Rattle.regular.specs.Designs.{blank, design_with};
+ghost use Rattle.regular.specs.PlanBytes.{mask_in};
+ghost use Rattle.regular.specs.Given.{of_words, of_design, of_columns, GivesFor, FillsFor};
 ghost use Rattle.regular.specs.Forms.{StandardDesign, StandardInto, WordsInto};
 ghost use Rattle.signs.specs.Masks.{MaskOf};
 ghost use Rattle.lent.specs.Lends.{Lends};
-ghost use Rattle.forms.specs.Made.{DesignMade, RunsMade, WordsLent};
 
+use admission::{Bytes, Form, Words};
 use bits::power;
-use regular::{Admitted, Design, DesignAnswer, FACTORS, RUNS, RunsAnswer, SignsAnswer};
+use regular::{AcceptedPlan, Design, FACTORS, RUNS, Refusal};
 
-// The design record of an admitted plan.
-fn design_of(n: usize, g: usize, plan: Admitted) -> DesignAnswer
-    requires { plan.number ≡ 0 → Size n g }
-    ensures { DesignMade n (n - g) plan.number plan.columns plan.run result.number result.design }
+// The design record of an admitted plan, with its standard columns and its mask.
+fn record_of(n: usize, g: usize, plan: AcceptedPlan) -> Design
+    requires { Size n g }
+    ensures mask { MaskOf n plan.columns plan.run result.mask }
+    ensures record { result ≡ design_with n (n - g) plan.columns result.mask }
 {
-    let number = plan.number;
-    let columns = plan.columns;
-    if number != 0 {
-        let design = plan_layout::blank_design();
-        return DesignAnswer { number, design };
-    }
-    let mask = column_forms::mask_of(n, columns, plan.run);
-    let design = plan_layout::design_with(n, n - g, columns, mask);
-    DesignAnswer { number, design }
+    let mask = column_forms::mask_of(n, plan.columns, plan.run);
+    plan_layout::design_with(n, n - g, plan.columns, mask)
 }
 
-// Words and signs to columns: the design record of their plan, with its standard columns and its mask.
-pub fn design_of_words(n: usize, g: usize, words: &[u16], signs: u16) -> DesignAnswer
-    ensures { StandardDesign n g (of_words n g words.now signs) result.number result.design }
+// To columns: the design record of a plan in any form.
+pub fn design_of<P: Form>(n: usize, g: usize, plan: P) -> Result<Design, Refusal>
+    ensures { StandardDesign n g (P.given plan n g) (refusal_of result) (result_unwrap_or result blank) }
 {
-    design_of(n, g, admission::admit_words(n, g, words, signs))
+    Ok(record_of(n, g, plan.admit(n, g)?))
 }
 
 // The same, the columns and the mask going into a lent list.
-pub fn columns_of_words(n: usize, g: usize, words: &[u16], signs: u16, out: &mut [u8]) -> u8
-    ensures { StandardInto n g (of_words n g words.now signs) out.old out.new result }
+pub fn columns_of<P: Form>(n: usize, g: usize, plan: P, out: &mut [u8]) -> Result<(), Refusal>
+    ensures { StandardInto n g (P.given plan n g) out.old out.new (refusal_of result) }
 {
-    lend_columns(n, admission::admit_words(n, g, words, signs), out)
+    let design = record_of(n, g, plan.admit(n, g)?);
+    plan_layout::lend_plan(n, design.columns, design.mask, out)
 }
 
-// Run table to columns: the design record of its set of runs.
-pub fn design_of_runs(n: usize, g: usize, runs: &[u16]) -> DesignAnswer
-    ensures { StandardDesign n g (of_runs n g runs.now) result.number result.design }
+// To words: the reduced words of a plan, in a lent list, and their signs.
+pub fn words_of<P: Form>(n: usize, g: usize, plan: P, out: &mut [u16]) -> Result<u16, Refusal>
+    ensures { WordsInto n g (P.given plan n g) out.old out.new (signs_answer result) }
 {
-    design_of(n, g, admission::admit_runs(n, g, runs))
+    let admitted = plan.admit(n, g)?;
+    let words = generators::generators(n, admitted.columns);
+    lent::lend_numbers(&words[..g], out)?;
+    Ok(sign_forms::signs_of(g, words, admitted.run))
 }
 
-// The same, the columns and the mask going into a lent list.
-pub fn columns_of_runs(n: usize, g: usize, runs: &[u16], out: &mut [u8]) -> u8
-    ensures { StandardInto n g (of_runs n g runs.now) out.old out.new result }
-{
-    lend_columns(n, admission::admit_runs(n, g, runs), out)
-}
-
-// The standard columns and the mask of an admitted plan, in a lent list.
-fn lend_columns(n: usize, plan: Admitted, out: &mut [u8]) -> u8
-    requires { plan.number ≡ 0 → n ≤ 16 }
-    ensures { Lends plan.number (plan_bytes n) (λ zs. Equal n zs plan.columns × MaskOf n plan.columns plan.run (mask_in n zs))
-        out.old out.new result }
-{
-    let number = plan.number;
-    if number != 0 {
-        return number;
-    }
-    let columns = plan.columns;
-    let mask = column_forms::mask_of(n, columns, plan.run);
-    plan_layout::lend_plan(n, columns, mask, out)
-}
-
-// The reduced words of an admitted plan, in a lent list, and their signs.
-fn lend_words(n: usize, g: usize, plan: Admitted, out: &mut [u16]) -> SignsAnswer
-    requires { plan.number ≡ 0 → Size n g }
-    ensures { WordsLent n g plan.number plan.columns plan.run out.old out.new result }
-{
-    let number = plan.number;
-    if number != 0 {
-        return SignsAnswer { number, signs: 0 };
-    }
-    let columns = plan.columns;
-    let words = generators::generators(n, columns);
-    let lent = lent::lend_numbers(&words[..g], out);
-    if lent != 0 {
-        return SignsAnswer {
-            number: lent,
-            signs: 0,
-        };
-    }
-    let signs = sign_forms::signs_of(g, words, plan.run);
-    SignsAnswer { number: 0, signs }
-}
-
-// Columns to words: the reduced words of the plan of a design record, and their signs.
-pub fn words_of_design(n: usize, g: usize, design: Design, out: &mut [u16]) -> SignsAnswer
-    ensures { WordsInto n g (of_design n g design) out.old out.new result }
-{
-    lend_words(n, g, admission::admit_design(n, g, design), out)
-}
-
-// The same of a plan in bytes.
-pub fn words_of_columns(n: usize, g: usize, plan: &[u8], out: &mut [u16]) -> SignsAnswer
-    ensures { WordsInto n g (of_columns n g plan.now) out.old out.new result }
-{
-    lend_words(n, g, admission::admit_columns(n, g, plan), out)
-}
-
-// The run table of columns and a mask, if their plan has no refusal.
-fn runs_of(n: usize, g: usize, number: u8, columns: [u8; FACTORS], mask: u16) -> RunsAnswer
-    requires { number ≡ 0 → Size n g }
-    ensures { RunsMade n (n - g) number columns mask result.number result.runs }
-{
-    if number != 0 {
-        return RunsAnswer {
-            number,
-            runs: [0u16; RUNS],
-        };
-    }
-    let runs = column_forms::switched_table(n, n - g, columns, mask);
-    RunsAnswer { number, runs }
-}
-
-// Columns to run table: run j of a design record at place j.
-pub fn runs_of_design(n: usize, g: usize, design: Design) -> RunsAnswer
+// To run table: run j of a design record at place j.
+pub fn runs_of_design(n: usize, g: usize, design: Design) -> Result<[u16; RUNS], Refusal>
     ensures { GivesFor (of_design n g design) (λ _. RunTableWith n (n - g) design.columns design.mask) (replicate 128 0)
-        result.number result.runs }
+        (refusal_of result) (result_unwrap_or result (replicate 128 0)) }
 {
-    let plan = admission::admit_design(n, g, design);
-    let columns = design.columns;
-    runs_of(n, g, plan.number, columns, design.mask)
+    design.admit(n, g)?;
+    Ok(column_forms::switched_table(n, n - g, design.columns, design.mask))
 }
 
 // Words and signs to run table: that of their standard columns and their mask.
-pub fn runs_of_words(n: usize, g: usize, words: &[u16], signs: u16) -> RunsAnswer
-    ensures { GivesFor (of_words n g words.now signs) (RunsOfPlan n (n - g) RunTableWith) (replicate 128 0) result.number result.runs }
+pub fn runs_of_words(n: usize, g: usize, words: Words<'_>) -> Result<[u16; RUNS], Refusal>
+    ensures { GivesFor (of_words n g words.entry.list.now words.entry.signs) (RunsOfPlan n (n - g) RunTableWith) (replicate 128 0)
+        (refusal_of result) (result_unwrap_or result (replicate 128 0)) }
 {
-    let standard = admission::admit_words(n, g, words, signs);
-    let columns = standard.columns;
-    runs_of(n, g, standard.number, columns, standard.run)
+    let standard = words.admit(n, g)?;
+    Ok(column_forms::switched_table(n, n - g, standard.columns, standard.run))
 }
 
-// The runs of columns and a mask in a lent list, if their plan has no refusal.
+// The runs of columns and a mask, in a lent list.
 fn lend_runs(
     n: usize,
     g: usize,
-    number: u8,
     columns: [u8; FACTORS],
     mask: u16,
     out: &mut [u16],
-) -> u8
-    requires { number ≡ 0 → Size n g }
-    ensures { Lends number (2 ^ (n - g)) (ListedWith n (n - g) columns mask) out.old out.new result }
+) -> Result<(), Refusal>
+    requires { Size n g }
+    ensures { Lends 0 (2 ^ (n - g)) (ListedWith n (n - g) columns mask) out.old out.new (refusal_of result) }
 {
-    if number != 0 {
-        return number;
-    }
     let m = n - g;
     let runs = column_forms::switched_table(n, m, columns, mask);
     let end = power(m);
@@ -166,25 +88,25 @@ fn lend_runs(
 }
 
 // The runs of a plan in bytes, in a lent list.
-pub fn list_runs_of_columns(n: usize, g: usize, plan: &[u8], out: &mut [u16]) -> u8
+pub fn list_runs_of_columns(n: usize, g: usize, plan: &[u8], out: &mut [u16]) -> Result<(), Refusal>
     ensures { FillsFor (of_columns n g plan.now) (2 ^ (n - g))
-        (λ _. ListedWith n (n - g) plan.now (mask_in n plan.now)) out.old out.new result }
+        (λ _. ListedWith n (n - g) plan.now (mask_in n plan.now)) out.old out.new (refusal_of result) }
 {
-    let admitted = admission::admit_columns(n, g, plan);
-    let number = admitted.number;
-    if number != 0 {
-        return number;
-    }
+    let admitted = Bytes(plan).admit(n, g)?;
     let columns = plan_layout::columns_at(n, plan, 0);
-    lend_runs(n, g, number, columns, admitted.run, out)
+    lend_runs(n, g, columns, admitted.run, out)
 }
 
 // The runs of words and signs, in a lent list: those of their standard columns and their mask.
-pub fn list_runs_of_words(n: usize, g: usize, words: &[u16], signs: u16, out: &mut [u16]) -> u8
-    ensures { FillsFor (of_words n g words.now signs) (2 ^ (n - g)) (RunsOfPlan n (n - g) ListedWith)
-        out.old out.new result }
+pub fn list_runs_of_words(
+    n: usize,
+    g: usize,
+    words: Words<'_>,
+    out: &mut [u16],
+) -> Result<(), Refusal>
+    ensures { FillsFor (of_words n g words.entry.list.now words.entry.signs) (2 ^ (n - g)) (RunsOfPlan n (n - g) ListedWith)
+        out.old out.new (refusal_of result) }
 {
-    let plan = admission::admit_words(n, g, words, signs);
-    let columns = plan.columns;
-    lend_runs(n, g, plan.number, columns, plan.run, out)
+    let admitted = words.admit(n, g)?;
+    lend_runs(n, g, admitted.columns, admitted.run, out)
 }

@@ -1,7 +1,8 @@
 -- A call that lends on: it passes a refusal on, refuses a list of too few places by 8, or fills the list.
-use Rattle.std.specs.Prelude.{◌≡◌, refl, List, ℕ, zero, suc, ◌≤◌, ◌<◌, length, drop, take}
-use Rattle.std.proofs.Common.{sym, subst, ◌∙◌, arith, get_or-take}
+use Rattle.std.specs.Prelude.{◌≡◌, refl, List, [], ◌∷◌, ◌++◌, ℕ, zero, suc, ◌+◌, ◌≤◌, ◌<◌, length, drop, take}
+use Rattle.std.proofs.Common.{sym, ap₂, subst, ◌∙◌, arith, get_or-take, length-take-le}
 use Rattle.std.proofs.Math.Logic.{by_cases}
+use Rattle.std.proofs.Math.Seq.{paste}
 use Rattle.std.proofs.Math.Decide.{dec_lt}
 use Rattle.regular.specs.Refusals.{LentFault, either, Lowest, Fills}
 use Rattle.regular.specs.RefusalLaws.{lowest_first, lowest_then, lent_is, lent_short, lent_fits}
@@ -73,6 +74,23 @@ pub record Lent (k : ℕ) (arr entry exit : List ℕ) : Type 0 where
 
 pub lends_lent : (k : ℕ) (arr ys zs : List ℕ) (r : ℕ) → k ≤ length ys → Lends 0 k (λ zs. Equal k zs arr) ys zs r → Lent k arr ys zs
 lends_lent k arr ys zs r h l = let f = l.filled refl h in record { places = f.1.0; past = f.1.1; size = l.size }
+
+take_none : (ys : List ℕ) → take 0 ys ≡ []
+take_none [] = refl
+take_none (y ∷ ys) = refl
+
+pub pasted_lent : (k : ℕ) (arr ys zs : List ℕ) → k ≤ length arr → k ≤ length ys → zs ≡ paste ys 0 arr k → Lent k arr ys zs
+pasted_lent k arr ys zs l h e =
+    let xs = take k arr in
+    let s : length xs ≡ k = length-take-le k arr l in
+    let fits : length xs ≤ length ys = omega (arith, s) in
+    let j : 0 + k ≡ length xs = omega (arith, s) in
+    let c : Copied xs ys zs = e ∙ ap₂ (λ (p : List ℕ) (j : ℕ). (p ++ xs) ++ drop j ys) (take_none ys) j in
+    record {
+      places = λ i q. copied_begins xs ys zs fits c i (omega (arith, s)) ∙ get_or-take k arr i 0 q;
+      past = subst (λ (j : ℕ). drop j zs ≡ drop j ys) s (copied_past xs ys zs fits c);
+      size = copied_size xs ys zs fits c;
+    }
 
 -- the call's contract, from the lowest fault of its plan
 pub lends_fills : (fault : ℕ → Type 0) (number k : ℕ) (Result : List ℕ → Type 0) (ys zs : List ℕ) (r : ℕ) → ((j : ℕ) → fault j → j ≤ 7) → Lowest fault number

@@ -8,7 +8,7 @@ use Rattle.regular.specs.Loads.{Load, load_faults, LoadsDesign, LoadsInto}
 use Rattle.regular.specs.PlanBytes.{byte_values, plan_bytes, mask_in}
 use Rattle.regular.specs.RefusalLaws.{none_lowest}
 use Rattle.regular.specs.Refusals.{LentFault, either, design_faults, columns_faults, Lowest}
-use Rattle.regular.specs.declared.LoadAnswer.{LoadAnswer}
+use Rattle.regular.specs.Answers.{LoadAnswer}
 use Rattle.regular.specs.declared.StateAnswer.{StateAnswer}
 use Rattle.load_laws.specs.LoadLaws.{load_accepted, load_plan_accepted}
 

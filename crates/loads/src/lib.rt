@@ -2,14 +2,17 @@
 #![tactic(auto)]
 
 ghost use Rattle.std.specs.Prelude.{◌≡◌, ℕ, ◌+◌, ◌-◌, ◌%◌, ◌^◌, ◌<◌, ◌≤◌, List, length};
+ghost use Rattle.regular.specs.Answers.{refusal_of, load_answer, state_answer};
 ghost use Rattle.regular.specs.Columns.{Column};
 ghost use Rattle.regular.specs.Refusals.{Lowest};
 ghost use Rattle.regular.specs.Loads.{yielded, FirstUnused, load_faults, LoadsDesign, LoadsInto};
 ghost use Rattle.column_forms.specs.Tables.{Seen};
 ghost use Rattle.loads.specs.Drawing.{Roomy, ColumnsDrawn, PlacesSwapped, Loaded};
 
+use admission::check_size;
 use bits::power;
-use regular::{FACTORS, LoadAnswer, NUMBERS, StateAnswer};
+use plan_layout::lend_plan;
+use regular::{FACTORS, Load, NUMBERS, Refusal};
 
 // What a draw adds to the state.
 const STEP: u32 = 2654435769;
@@ -25,7 +28,7 @@ struct Drawn {
 fn next_state(state: u32) -> u32
     ensures { result ≡ (state + 2654435769) % 2 ^ 32 }
 {
-    std::num::wrapping_add_u32(state, STEP)
+    state.wrapping_add(STEP)
 }
 
 // What a draw yields, by the state after it.
@@ -50,13 +53,11 @@ fn first_unused(last: usize, x: usize, f: usize, seen: &[u8; NUMBERS]) -> usize
     ensures { (0 < result) × (result ≤ last) × ((c : List ℕ) → Seen c f seen.now → FirstUnused last (Column f c) (x + 1) result) }
 {
     let mut column = x + 1;
-    let mut k: usize = 0;
-    while k < f {
+    for _ in 0..f {
         if seen[column] == 0 {
             return column;
         }
         column = column % last + 1;
-        k += 1;
     }
     column
 }
@@ -70,21 +71,17 @@ fn draw_columns(n: usize, m: usize, seed: u32) -> Drawn
     let mut columns = [0u8; FACTORS];
     let mut seen = [0u8; NUMBERS];
     seen[0] = 1;
+    for f in 0..m {
+        let x = power(f);
+        columns[f] = x as u8;
+        seen[x] = 1;
+    }
     let mut state = seed;
-    let mut f: usize = 0;
-    while f < n {
-        if f < m {
-            let x = power(f);
-            columns[f] = x as u8;
-            seen[x] = 1;
-            f += 1;
-            continue;
-        }
+    for f in m..n {
         state = next_state(state);
         let x = first_unused(last, remainder(state, last), f, &seen);
         columns[f] = x as u8;
         seen[x] = 1;
-        f += 1;
     }
     Drawn { state, columns }
 }
@@ -96,31 +93,23 @@ fn swap_places(n: usize, before: Drawn) -> Drawn
 {
     let mut columns = before.columns;
     let mut state = before.state;
-    let mut i = n - 1;
-    while 0 < i {
+    for i in (1..n).rev() {
         state = next_state(state);
         let j = remainder(state, i + 1);
-        let x = columns[i];
-        let y = columns[j];
-        columns[i] = y;
-        columns[j] = x;
-        i -= 1;
+        columns.swap(i, j);
     }
     Drawn { state, columns }
 }
 
-// 1, 2 or 7 if there is no load of n factors and g generators, else 0.
-fn load_number(n: usize, g: usize) -> u8
-    ensures { Lowest (load_faults n g) result × (result ≡ 0 → Roomy n (n - g)) }
+// Whether there is a load of n factors and g generators.
+fn check_room(n: usize, g: usize) -> Result<(), Refusal>
+    ensures { Lowest (load_faults n g) (refusal_of result) × (refusal_of result ≡ 0 → Roomy n (n - g)) }
 {
-    let number = admission::size_number(n, g);
-    if number != 0 {
-        return number;
-    }
+    check_size(n, g)?;
     if power(n - g) <= n {
-        return 7;
+        return Err(Refusal::ShortWord);
     }
-    0
+    Ok(())
 }
 
 // The columns of the load, and the state that goes back.
@@ -132,50 +121,21 @@ fn drawn_load(n: usize, g: usize, seed: u32) -> Drawn
 }
 
 // The load of a seed as a design record, and the state for the next.
-pub fn load(n: usize, g: usize, seed: u32) -> LoadAnswer
-    ensures { LoadsDesign n g seed result }
+pub fn load(n: usize, g: usize, seed: u32) -> Result<Load, Refusal>
+    ensures { LoadsDesign n g seed (load_answer seed result) }
 {
-    let number = load_number(n, g);
-    if number != 0 {
-        let design = plan_layout::blank_design();
-        return LoadAnswer {
-            number,
-            state: seed,
-            design,
-        };
-    }
-    let drawn = drawn_load(n, g, seed);
-    let columns = drawn.columns;
+    check_room(n, g)?;
+    let Drawn { state, columns } = drawn_load(n, g, seed);
     let design = plan_layout::design(n, n - g, columns);
-    LoadAnswer {
-        number,
-        state: drawn.state,
-        design,
-    }
+    Ok(Load { state, design })
 }
 
-// The same, the plan going into a lent list.
-pub fn list_load(n: usize, g: usize, seed: u32, out: &mut [u8]) -> StateAnswer
-    ensures { LoadsInto n g seed out.old out.new result }
+// The state for the next, the plan of the load going into a lent list.
+pub fn list_load(n: usize, g: usize, seed: u32, out: &mut [u8]) -> Result<u32, Refusal>
+    ensures { LoadsInto n g seed out.old out.new (state_answer seed result) }
 {
-    let number = load_number(n, g);
-    if number != 0 {
-        return StateAnswer {
-            number,
-            state: seed,
-        };
-    }
-    let drawn = drawn_load(n, g, seed);
-    let columns = drawn.columns;
-    let lent = plan_layout::lend_plan(n, columns, 0, out);
-    if lent != 0 {
-        return StateAnswer {
-            number: lent,
-            state: seed,
-        };
-    }
-    StateAnswer {
-        number: lent,
-        state: drawn.state,
-    }
+    check_room(n, g)?;
+    let Drawn { state, columns } = drawn_load(n, g, seed);
+    lend_plan(n, columns, 0, out)?;
+    Ok(state)
 }

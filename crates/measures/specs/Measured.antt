@@ -7,7 +7,7 @@ use Rattle.regular.specs.Refusals.{LentFault, either, Gives, Fills}
 use Rattle.regular.specs.Runs.{Runs, Agree, switched}
 use Rattle.regular.specs.Given.{Given}
 use Rattle.regular.specs.Measures.{PatternInto, ResolutionOf, ResolutionInto, DistancesInto}
-use Rattle.regular.specs.declared.Admitted.{Admitted}
+use Rattle.regular.specs.Answers.{Admitted}
 use Rattle.words.specs.Switches.{agree_sym, pattern_agree, resolution_agree, distances_agree, switched_twice}
 use Rattle.words.specs.Switches.{pattern_switched, resolution_switched, distances_switched}
 use Rattle.counts.specs.Models.{first_length}
@@ -22,6 +22,10 @@ pub record ResolutionMade (n : ℕ) (s : Runs) (number r k : ℕ) : Type 0 where
   pub same : r ≡ number
   pub refused : 0 < number → k ≡ 0
   pub made : number ≡ 0 → Resolution n s k
+
+-- of an accepted plan
+pub resolution_accepted : {n : ℕ} {s : Runs} {k : ℕ} → Resolution n s k → ResolutionMade n s 0 0 k
+resolution_accepted h = record { same = refl; refused = λ l. absurd (omega arith); made = λ _. h }
 
 -- by the pattern
 pub resolution_made : {n : ℕ} {s : Runs} {p : List ℕ} {number k : ℕ} → number ≡ 0 → Pattern n s p → k ≡ first_length n p → ResolutionMade n s number number k

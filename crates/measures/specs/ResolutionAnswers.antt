@@ -9,7 +9,7 @@ use Rattle.regular.specs.Pattern.{Resolution}
 use Rattle.regular.specs.RefusalLaws.{lowest_unique}
 use Rattle.regular.specs.Refusals.{Lowest}
 use Rattle.regular.specs.Words.{Word}
-use Rattle.regular.specs.declared.Admitted.{Admitted}
+use Rattle.regular.specs.Answers.{Admitted}
 use Rattle.counts.specs.FullFactorials.{resolution_some, full_resolution, fraction_resolution}
 use Rattle.counts.specs.PlanCounts.{switched_words}
 use Rattle.counts.specs.Resolutions.{resolution_unique}

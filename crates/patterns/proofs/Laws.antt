@@ -1,9 +1,9 @@
 -- Each turn of the loops, and what the tables give in the end, over plain numbers and lists. Assumes nothing.
 use mathlib.Core.Path.{◌≡◌, refl, sym, ap, subst, ◌∙◌}
 use mathlib.Core.Logic.{by_cases}
-use mathlib.Core.Bool.{true, false}
+use mathlib.Core.Bool.{Bool, true, false}
 use mathlib.Core.List.{List}
-use Prim.Native.Nat.{ℕ, suc, ◌+◌, ◌-◌, ◌*◌, ◌%◌, ◌^◌, ◌≤◌, ◌<◌}
+use Prim.Native.Nat.{ℕ, suc, min, ◌+◌, ◌-◌, ◌*◌, ◌^◌, ◌≤◌, ◌<◌}
 use native.Mathlib.Nat.{two-pow-succ}
 use native.Mathlib.Numerals.{add-one}
 use native.Mathlib.Omega.{arith}
@@ -11,12 +11,18 @@ use native.Mathlib.Decide.{ℕ_discrete, dec_lt}
 use borrow.Author.Tests.{ltb-true, ltb-false}
 use lib.Bits.{bit_xor}
 use lib.Dec.{ltb}
-use lib.ListN.{get_or, set, replicate, length-set, get_or-eq_default}
-use lib.Pow.{pow_mono, shl_exact}
+use lib.ListN.{length, get_or, set, take, replicate, length-set, get_or-eq_default}
+use lib.Pow.{pow_mono}
 use lib.Seq.{get_or-set_same, get_or-set_other}
+use Rattle.std.proofs.Common.{get_or-take, length-take-le}
+use Rattle.std.specs.Bool.{MatchBool}
+use Rattle.std.specs.List.{AllWithin, HoldsAt}
+use Rattle.gf2.specs.Answers.{Tells, tells_yes, tells_no}
 use Rattle.gf2.specs.Doubling.{Doubling}
 use Rattle.gf2.specs.Fill.{zeros}
-use Rattle.counts.specs.Models.{PatternModel, DistanceModel}
+use Rattle.counts.specs.Models.{PatternModel, DistanceModel, first_length}
+use Rattle.counts.specs.Resolutions.{first_length_lem}
+use Rattle.counts.specs.ShortWords.{CountBelow, NoneBelow}
 use Rattle.counts.specs.Tally.{tally, tally_start, tally_hit, tally_miss, tally_le, tally_same}
 use Rattle.regular.specs.Pattern.{Better, of_length}
 use Rattle.regular.specs.Words.{letters, total}
@@ -72,31 +78,19 @@ counts_more k l xs t e h c =
 pub counts_all : (k end : ℕ) (xs t : List ℕ) → k ≤ end → end ≤ k → LettersCounted k xs t → LettersCounted end xs t
 counts_all k end xs t p q c = let e : k ≡ end = omega arith in subst (λ (j : ℕ). LettersCounted j xs t) e c
 
--- the lengths from 1
-pub from_none : (counts : List ℕ) → FromOne 0 counts (replicate 16 0)
-from_none counts = record { places = refl; same = λ i h. absurd (omega arith); unused = λ i h. zeros 16 i }
-
-pub from_more : (k : ℕ) (counts p : List ℕ) → k < 16 → FromOne k counts p → FromOne (k + 1) counts (set p k (get_or counts (k + 1) 0))
-from_more k counts p h f =
-    let y = get_or counts (k + 1) 0 in
+-- those of the first numbers of a list
+pub counts_front : (end : ℕ) (xs t : List ℕ) → end ≤ length xs → LettersCounted (length (take end xs)) (take end xs) t → LettersCounted end xs t
+counts_front end xs t h c =
+    let e : length (take end xs) ≡ end = length-take-le end xs h in
     record {
-      places = length-set p k y ∙ f.places;
-      same = λ i l. by_cases (ℕ_discrete i k)
-          (λ e. ap (λ (j : ℕ). get_or (set p k y) j 0) e ∙ get_or-set_same p k y 0 (omega (arith, f.places))
-          ∙ ap (λ (j : ℕ). get_or counts j 0) (add-one k ∙ ap suc (sym e)))
-          (λ ne. get_or-set_other p k i y 0 ne ∙ f.same i (omega arith));
-      unused = λ i l. get_or-set_other p k i y 0 (λ e. omega arith) ∙ f.unused i (omega arith);
+      places = c.places;
+      count = λ i b. c.count i b ∙ ap (λ (k : ℕ). tally (λ j. letters (get_or (take end xs) j 0)) k i) e
+          ∙ tally_same (λ j. letters (get_or (take end xs) j 0)) (λ j. letters (get_or xs j 0)) end i (λ j l. ap letters (get_or-take end xs j 0 l));
     }
 
+-- the lengths from 1
 pub from_all : (k n : ℕ) (counts p : List ℕ) → k ≤ n → n ≤ k → FromOne k counts p → FromOne n counts p
 from_all k n counts p a b f = let e : k ≡ n = omega arith in subst (λ (j : ℕ). FromOne j counts p) e f
-
--- how many products there are
-pub end_is : (g : ℕ) → g ≤ 11 → 1 * 2 ^ g % 2 ^ 64 ≡ 2 ^ g
-end_is g h = shl_exact 1 g 64 (omega arith) (omega arith) ∙ omega arith
-
-pub end_le : (g : ℕ) → g ≤ 11 → 1 * 2 ^ g % 2 ^ 64 ≤ 2048
-end_le g h = omega (arith, end_is g h, pow_mono {i = g} {j = 11} h)
 
 -- the pattern
 pub pattern_model : (n g end : ℕ) (ws sums counts p : List ℕ) → n ≤ 16 → end ≡ 2 ^ g → Products g ws sums → LettersCounted end sums counts
@@ -137,3 +131,57 @@ module _ (m : ℕ) (p q : List ℕ) (l : ℕ) (from : 3 ≤ l) (same : (k : ℕ)
 -- one length more without a count
 pub none_next : {l : ℕ} (p : List ℕ) → ((k : ℕ) → 1 ≤ k → k < l → of_length p k ≡ 0) → of_length p l ≡ 0 → (k : ℕ) → 1 ≤ k → k < l + 1 → of_length p k ≡ 0
 none_next {l} p none z k some few = by_cases (ℕ_discrete k l) (λ e. ap (of_length p) e ∙ z) (λ ne. none k some (omega arith))
+
+-- the first lengths, looked through for a count
+at_front : (end : ℕ) (p : List ℕ) (l : ℕ) → 1 ≤ l → l ≤ end → get_or (take end p) (l - 1) 0 ≡ of_length p l
+at_front end p l some most = get_or-take end p (l - 1) 0 (omega arith)
+
+at_place : (end : ℕ) (p : List ℕ) (k : ℕ) → k < end → get_or (take end p) k 0 ≡ of_length p (k + 1)
+at_place end p k h = get_or-take end p k 0 h ∙ ap (λ (j : ℕ). get_or p j 0) (omega arith)
+
+module _ (end : ℕ) (p : List ℕ) (h : end ≤ length p) where
+  size : length (take end p) ≡ end
+  size = length-take-le end p h
+
+  pub below_tells : (n r : ℕ) (b : Bool) → end ≡ min n (r - 1)
+      → MatchBool b ((k : ℕ) × (k < length (take end p)) × HoldsAt (λ x. 0 < x) (take end p) k)
+      (AllWithin (λ x. x ≡ 0) (take end p) 0 (length (take end p)))
+      → Tells b (CountBelow n r p) (NoneBelow n r p)
+  below_tells n r true e (k, within, some) =
+      let w : k < end = omega (arith, within, size) in
+      tells_yes _ _ (k + 1, (omega arith, (omega (arith, w, e), (omega (arith, w, e), omega (arith, some 0, at_place end p k w)))))
+  below_tells n r false e none =
+      tells_no _ _ (λ l some most few. let w : l ≤ end = omega (arith, e) in sym (at_front end p l some w)
+      ∙ none (l - 1) 0 (omega arith) (omega (arith, size)))
+
+module _ (n : ℕ) (p : List ℕ) (h : n ≤ length p) where
+  long : length (take n p) ≡ n
+  long = length-take-le n p h
+
+  none_to : (i : ℕ) → i ≤ n → AllWithin (λ x. x ≡ 0) (take n p) 0 i → (k : ℕ) → 1 ≤ k → k < i + 1 → of_length p k ≡ 0
+  none_to i most none k some few = sym (at_front n p k some (omega arith)) ∙ none (k - 1) 0 (omega arith) (omega arith)
+
+  pub first_found : (i : ℕ) → (i < length (take n p)) × HoldsAt (λ x. x ≡ 0 → ⊥) (take n p) i × AllWithin (λ x. x ≡ 0) (take n p) 0 i
+      → i + 1 ≡ first_length n p
+  first_found i (within, some, none) =
+      let w : i < n = omega (arith, within, long) in
+      let nz = some 0 in
+      first_length_lem (record {
+        some = omega arith;
+        within = omega arith;
+        before = none_to i (omega arith) none;
+        counted = λ few. omega (arith, nz, at_place n p i w);
+      })
+
+  pub none_found : AllWithin (λ x. x ≡ 0) (take n p) 0 (length (take n p)) → n + 1 ≡ first_length n p
+  none_found none =
+      first_length_lem (record {
+        some = omega arith;
+        within = omega arith;
+        before = none_to n (omega arith) (subst (AllWithin (λ x. x ≡ 0) (take n p) 0) long none);
+        counted = λ few. absurd (omega arith);
+      })
+
+-- how many products there are
+pub products_long : (g end : ℕ) (ws sums : List ℕ) → g ≤ 11 → end ≡ 2 ^ g → Products g ws sums → end ≤ length sums
+products_long g end ws sums h e p = omega (arith, e, p.places, pow_mono {i = g} {j = 11} h)

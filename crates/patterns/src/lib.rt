@@ -3,29 +3,16 @@
 
 ghost use Rattle.std.specs.Prelude.{◌≡◌, ◌≤◌, length};
 ghost use Rattle.gf2.specs.Answers.{Tells};
-ghost use Rattle.gf2.specs.Doubling.{Doubling};
 ghost use Rattle.regular.specs.Pattern.{Better};
 ghost use Rattle.counts.specs.Models.{PatternModel, DistanceModel, first_length};
 ghost use Rattle.counts.specs.ShortWords.{CountBelow, NoneBelow};
 ghost use Rattle.patterns.specs.Steps.{Products, LettersCounted, FromOne};
 
+use bits::{double, letters, power};
 use regular::{FACTORS, RUNS};
 
 // The most words of a plan, with the empty one.
 const WORDS: usize = 2048;
-
-// Puts each of the first half numbers, with w, half places further.
-fn double(sums: &mut [u16; WORDS], half: usize, w: u16)
-    requires { (half ≤ 1024) × (length sums.old ≡ 2048) }
-    ensures { Doubling w half half sums.old sums.new }
-{
-    let mut k: usize = 0;
-    while k < half {
-        let s = sums[k];
-        sums[half + k] = s ^ w;
-        k += 1;
-    }
-}
 
 // The products of the first g words, that of the words at the bits of t at place t.
 fn products(g: usize, words: [u16; FACTORS]) -> [u16; WORDS]
@@ -33,28 +20,20 @@ fn products(g: usize, words: [u16; FACTORS]) -> [u16; WORDS]
     ensures { Products g words result }
 {
     let mut sums = [0u16; WORDS];
-    let mut half: usize = 1;
-    let mut d: usize = 0;
-    while d < g {
-        double(&mut sums, half, words[d]);
-        half = half + half;
-        d += 1;
+    for d in 0..g {
+        double(words[d], power(d), &mut sums);
     }
     sums
 }
 
-// How many of the first `end` numbers have i letters, at place i.
-fn letter_counts(list: &[u16], end: usize) -> [u16; 17]
-    requires { (end ≤ length list.now) × (end ≤ 2048) }
-    ensures { LettersCounted end list.now result }
+// How many of the numbers have i letters, at place i.
+fn letter_counts(list: &[u16]) -> [u16; 17]
+    requires { length list.now ≤ 2048 }
+    ensures { LettersCounted (length list.now) list.now result }
 {
     let mut counts = [0u16; 17];
-    let mut j: usize = 0;
-    while j < end {
-        let l = bits::letters(list[j]);
-        let c = counts[l];
-        counts[l] = c + 1;
-        j += 1;
+    for w in list {
+        counts[letters(*w)] += 1;
     }
     counts
 }
@@ -65,11 +44,7 @@ fn from_one(n: usize, counts: [u16; 17]) -> [u16; FACTORS]
     ensures { FromOne n counts result }
 {
     let mut p = [0u16; FACTORS];
-    let mut i: usize = 0;
-    while i < n {
-        p[i] = counts[i + 1];
-        i += 1;
-    }
+    p[..n].copy_from_slice(&counts[1..n + 1]);
     p
 }
 
@@ -79,8 +54,7 @@ pub fn pattern_of(n: usize, g: usize, words: [u16; FACTORS]) -> [u16; FACTORS]
     ensures { PatternModel n g words result }
 {
     let sums = products(g, words);
-    let end: usize = 1 << g;
-    let counts = letter_counts(&sums, end);
+    let counts = letter_counts(&sums[..power(g)]);
     from_one(n, counts)
 }
 
@@ -89,14 +63,10 @@ pub fn resolution_of(n: usize, pattern: [u16; FACTORS]) -> u8
     requires { n ≤ 16 }
     ensures { result ≡ first_length n pattern }
 {
-    let mut l: usize = 1;
-    while l <= n {
-        if pattern[l - 1] != 0 {
-            return l as u8;
-        }
-        l += 1;
+    match pattern[..n].iter().position(|c| *c != 0) {
+        Some(i) => (i + 1) as u8,
+        None => (n + 1) as u8,
     }
-    (n + 1) as u8
 }
 
 // Whether some word has fewer than r letters. No word has more than n letters, so a plan without words has none, even where n + 1 is below r.
@@ -104,17 +74,8 @@ pub fn word_below(n: usize, r: usize, pattern: [u16; FACTORS]) -> bool
     requires { n ≤ 16 }
     ensures { Tells result (CountBelow n r pattern) (NoneBelow n r pattern) }
 {
-    let mut l: usize = 1;
-    while l < r {
-        if n < l {
-            return false;
-        }
-        if 0 < pattern[l - 1] {
-            return true;
-        }
-        l += 1;
-    }
-    false
+    let end = n.min(r.saturating_sub(1));
+    pattern[..end].iter().any(|c| 0 < *c)
 }
 
 // How many of the first `end` runs have i low levels, at place i.
@@ -122,7 +83,7 @@ pub fn distances_of(end: usize, runs: [u16; RUNS]) -> [u16; 17]
     requires { end ≤ 128 }
     ensures { DistanceModel 16 end runs result }
 {
-    letter_counts(&runs, end)
+    letter_counts(&runs[..end])
 }
 
 // Whether p has the smaller count at the first length from 3 to `last` where the two differ.
@@ -130,14 +91,6 @@ pub fn better(last: usize, p: [u16; FACTORS], q: [u16; FACTORS]) -> bool
     requires { last ≤ 16 }
     ensures { Tells result (Better last p q) (Better last p q → ⊥) }
 {
-    let mut l: usize = 3;
-    while l <= last {
-        let a = p[l - 1];
-        let b = q[l - 1];
-        if a != b {
-            return a < b;
-        }
-        l += 1;
-    }
-    false
+    let end = last.max(2);
+    p[2..end] < q[2..end]
 }

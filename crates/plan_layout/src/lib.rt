@@ -2,19 +2,17 @@
 // a plan takes, where its mask stands and which fields a record has is known here, and in no other crate that takes plans one after another.
 #![tactic(auto)]
 
-ghost use Rattle.std.specs.Prelude.{◌≡◌, ℕ, ◌≤◌, ◌<◌, ◌^◌, length, get_or};
+ghost use Rattle.std.specs.Prelude.{◌≡◌, ℕ, ◌≤◌, ◌<◌, ◌^◌, length, get_or, IfOk, Ok};
 ghost use Rattle.gf2.specs.Answers.{Tells};
+ghost use Rattle.regular.specs.Answers.{refusal_of};
 ghost use Rattle.regular.specs.Designs.{design_with, design_of, blank};
-ghost use Rattle.regular.specs.PlanBytes.{byte_values, plan_bytes, plan_start, plan_at, HasPlan, plan_count, mask_in};
+ghost use Rattle.regular.specs.PlanBytes.{plan_bytes, plan_start, plan_at, HasPlan, plan_count, mask_in};
 ghost use Rattle.regular.specs.Smallest.{Equal};
 ghost use Rattle.lent.specs.Lending.{Lending};
 ghost use Rattle.lent.specs.Lends.{Lends};
 ghost use Rattle.plan_layout.specs.Put.{MaskPut, PlanPut};
 
-use regular::{Design, FACTORS};
-
-// How many values a byte has.
-const BYTE_VALUES: u16 = 256;
+use regular::{Design, FACTORS, Refusal};
 
 // How many bytes a plan takes.
 pub fn plan_bytes(n: usize) -> usize
@@ -73,19 +71,8 @@ pub fn columns_at(n: usize, plans: &[u8], i: usize) -> [u8; FACTORS]
 {
     let start = plan_start(n, i);
     let mut columns = [0u8; FACTORS];
-    let mut f: usize = 0;
-    while f < n {
-        columns[f] = plans[start + f];
-        f += 1;
-    }
+    columns[..n].copy_from_slice(&plans[start..start + n]);
     columns
-}
-
-// A byte as a part of a mask.
-fn wide(x: u8) -> u16
-    ensures { (result ≡ x) × (result < byte_values) }
-{
-    x as u16
 }
 
 // The switch mask of a plan, after its columns, low byte first.
@@ -93,7 +80,7 @@ pub fn mask_in(n: usize, plan: &[u8]) -> u16
     requires { length plan.now ≡ plan_bytes n }
     ensures { result ≡ mask_in n plan.now }
 {
-    wide(plan[n]) + BYTE_VALUES * wide(plan[n + 1])
+    u16::from_le_bytes([plan[n], plan[n + 1]])
 }
 
 // Whether plan i of the bytes has the columns c and no switches.
@@ -102,18 +89,8 @@ pub fn has_columns(n: usize, plans: &[u8], i: usize, c: [u8; FACTORS]) -> bool
     ensures { Tells result (Equal n (plan_at n plans.now i) c × (mask_in n (plan_at n plans.now i) ≡ 0))
         (Equal n (plan_at n plans.now i) c × (mask_in n (plan_at n plans.now i) ≡ 0) → ⊥) }
 {
-    let start = plan_start(n, i);
-    let mut f: usize = 0;
-    while f < n {
-        if plans[start + f] != c[f] {
-            return false;
-        }
-        f += 1;
-    }
-    if plans[start + n] != 0 {
-        return false;
-    }
-    plans[start + n + 1] == 0
+    let plan = plan_at(n, plans, i);
+    plan[..n] == c[..n] && mask_in(n, plan) == 0
 }
 
 // The switch mask of a plan, after its columns.
@@ -121,8 +98,9 @@ pub fn put_mask(n: usize, mask: u16, plan: &mut [u8])
     requires { length plan.old ≡ plan_bytes n }
     ensures { MaskPut n mask plan.old plan.new }
 {
-    plan[n] = (mask % BYTE_VALUES) as u8;
-    plan[n + 1] = (mask / BYTE_VALUES) as u8;
+    let [low, high] = mask.to_le_bytes();
+    plan[n] = low;
+    plan[n + 1] = high;
 }
 
 // The plan of the columns and the mask, as plan i of the bytes.
@@ -132,31 +110,35 @@ pub fn put_plan(n: usize, columns: [u8; FACTORS], mask: u16, i: usize, plans: &m
 {
     let start = plan_start(n, i);
     lent::put_first(n, columns, start, plans);
-    plans[start + n] = (mask % BYTE_VALUES) as u8;
-    plans[start + n + 1] = (mask / BYTE_VALUES) as u8;
+    let [low, high] = mask.to_le_bytes();
+    plans[start + n] = low;
+    plans[start + n + 1] = high;
 }
 
-// The plan of the columns and the mask as a result: 8 if `out` has too few places, else 0 with `out` filled.
-pub fn lend_plan(n: usize, columns: [u8; FACTORS], mask: u16, out: &mut [u8]) -> u8
+// The plan of the columns and the mask as a result, in `out`.
+pub fn lend_plan(n: usize, columns: [u8; FACTORS], mask: u16, out: &mut [u8]) -> Result<(), Refusal>
     requires { n ≤ 16 }
-    ensures { Lends 0 (plan_bytes n) (λ zs. Equal n zs columns × (mask_in n zs ≡ mask)) out.old out.new result }
+    ensures { Lends 0 (plan_bytes n) (λ zs. Equal n zs columns × (mask_in n zs ≡ mask)) out.old out.new (refusal_of result) }
 {
     if out.len() < plan_bytes(n) {
-        return 8;
+        return Err(Refusal::Places);
     }
     put_plan(n, columns, mask, 0, out);
-    0
+    Ok(())
 }
 
-// The number of a call's other arguments, or else 8 if a lent list has no room for a plan.
-pub fn lending_plan(number: u8, n: usize, places: usize) -> u8
-    requires { number ≡ 0 → n ≤ 16 }
-    ensures { Lending number (plan_bytes n) places result }
+// The value or the refusal of a call's other arguments, or else the refusal of a lent list that has no room for a plan.
+pub fn lending_plan<T: Copy>(
+    other: Result<T, Refusal>,
+    n: usize,
+    places: usize,
+) -> Result<T, Refusal>
+    requires { refusal_of other ≡ 0 → n ≤ 16 }
+    ensures number { Lending (refusal_of other) (plan_bytes n) places (refusal_of result) }
+    ensures value { IfOk result (λ x. other ≡ Ok x) }
 {
-    if number != 0 {
-        return number;
-    }
-    lent::lending(number, plan_bytes(n), places)
+    let value = other?;
+    lent::lending(Ok(value), plan_bytes(n), places)
 }
 
 // The record of n factors, m basics, sixteen columns and a mask.
@@ -187,34 +169,9 @@ pub fn blank_design() -> Design
     design(0, 0, [0u8; FACTORS])
 }
 
-// Whether two lists of sixteen columns are equal.
-fn same_columns(c: [u8; FACTORS], d: [u8; FACTORS]) -> bool
-    ensures { Tells result (c ≡ d) (c ≡ d → ⊥) }
-{
-    let mut f: usize = 0;
-    while f < FACTORS {
-        if c[f] != d[f] {
-            return false;
-        }
-        f += 1;
-    }
-    true
-}
-
 // Whether two records are equal.
 pub fn same_design(c: Design, d: Design) -> bool
     ensures { Tells result (c ≡ d) (c ≡ d → ⊥) }
 {
-    if c.factors != d.factors {
-        return false;
-    }
-    if c.basics != d.basics {
-        return false;
-    }
-    if c.mask != d.mask {
-        return false;
-    }
-    let first = c.columns;
-    let second = d.columns;
-    same_columns(first, second)
+    c == d
 }

@@ -1,5 +1,5 @@
 -- One plan's number from its resolution and its mask, the number of a list of plans from those of its plans, and what r = 3 adds: nothing.
-use Rattle.std.specs.Prelude.{ℕ, suc, ◌+◌, ◌-◌, ◌≤◌, ◌<◌, Bool, true, false, ◌≡◌, refl, ◌⊎◌, List, length, get_or}
+use Rattle.std.specs.Prelude.{ℕ, suc, ◌+◌, ◌-◌, ◌≤◌, ◌<◌, Bool, true, false, ◌≡◌, refl, ◌⊎◌, List, length, get_or, Result, Err}
 use Rattle.std.proofs.lemmas.Bool.{false≢true}
 use Rattle.std.proofs.Common.{sym, subst, inl, inr, ⊎_elim, add-one, arith}
 use Rattle.std.proofs.Math.Logic.{by_cases}
@@ -11,11 +11,12 @@ use Rattle.regular.specs.Columns.{plan_of}
 use Rattle.regular.specs.Designs.{blank}
 use Rattle.regular.specs.Refusals.{Short, ResolutionFault, WantedFault, SwitchFault, either, Lowest, size_faults}
 use Rattle.regular.specs.RefusalLaws.{lowest_none, lowest_at, lowest_same, lowest_first, lowest_then, lowest_lower, none_lowest, Lower}
-use Rattle.regular.specs.RefusalLaws.{list_is, columns_least, mask_is}
+use Rattle.regular.specs.RefusalLaws.{list_is, columns_least, mask_is, number_positive}
 use Rattle.regular.specs.PlanBytes.{plan_bytes, plan_start, plan_at, plan_count, mask_in}
 use Rattle.regular.specs.PlanLists.{BytesFault, of_some, records_faults, plans_faults, wanted_records_faults, wanted_plans_faults}
 use Rattle.regular.specs.declared.Design.{Design}
-use Rattle.regular.specs.declared.Admitted.{Admitted}
+use Rattle.regular.specs.Answers.{Admitted, number, refusal_of}
+use Rattle.regular.specs.declared.Refusal.{Refusal}
 use Rattle.words.specs.Short.{distinct_long}
 use Rattle.words.specs.Switches.{agree_sym, short_agree, short_switched, switched_twice}
 use Rattle.admission.specs.Admission.{Admission, Ready}
@@ -205,6 +206,11 @@ module _ (n g r : ℕ) (bare : Bool) (bytes : List ℕ) where
   plans_sizes k some low l =
       lowest_at (wanted_plans_faults n g r bare bytes) k (omega arith) (⊎_elim (λ s. inl (inl s)) (λ f. inr (inl f)) (l.applies (omega arith)))
       (λ j f. ⊎_elim (λ s. (l.least j s).1) (λ h. omega arith) (later j f))
+
+  -- a refusal of the sizes is passed on
+  pub sizes_passed_on : {A : Type 0} (e : Refusal) (a : Result A Refusal) → a ≡ Err e → number e ≤ 3 → Lowest (size_faults n g r) (number e)
+      → Lowest (wanted_plans_faults n g r bare bytes) (refusal_of a)
+  sizes_passed_on e a q low l = rw q (plans_sizes (number e) (λ z. omega (arith, number_positive e)) low l)
 
   pub plans_four : Lowest (size_faults n g r) 0 → ((count : ℕ) → length bytes ≡ plan_start n count → ⊥) → Lowest (wanted_plans_faults n g r bare bytes) 4
   plans_four l h = lowest_at (wanted_plans_faults n g r bare bytes) 4 (omega arith) (inl (inr (inl (BytesFault.count h))))

@@ -3,127 +3,135 @@
 #![tactic(auto)]
 
 ghost use Rattle.std.specs.Prelude.{◌≡◌, ◌-◌, length};
+ghost use Rattle.regular.specs.Answers.{refusal_of};
 ghost use Rattle.regular.specs.Columns.{plan_of};
-ghost use Rattle.regular.specs.Refusals.{SwitchFault, Lowest, size_faults};
+ghost use Rattle.regular.specs.Refusals.{WantedFault, SwitchFault, either, Lowest, size_faults};
+ghost use Rattle.regular.specs.RefusalLaws.{Lower};
 ghost use Rattle.regular.specs.PlanBytes.{plan_bytes, plan_count};
 ghost use Rattle.regular.specs.PlanLists.{wanted_records_faults, wanted_plans_faults};
 ghost use Rattle.admission.specs.Admission.{Ready};
-ghost use Rattle.plan_lists.specs.Judged.{WantedNumber, bare_wanted, design_wanted, columns_wanted, JudgedMore, AllJudged};
+ghost use Rattle.plan_lists.specs.Judged.{wanted, bare_wanted, design_wanted, columns_wanted, AllJudged};
 
-use admission::{bounds_number, lower_of};
+use admission::{Bare, Bytes, Form, both, check_bounds};
 use plan_layout::{mask_in, plan_at, plan_count, whole_plans};
-use regular::{Admitted, Design};
+use regular::{AcceptedPlan, Design, Refusal};
 
-// An admitted plan where the resolution r is wanted: its own number, or 7 if a word is shorter than r. An admitted plan has none shorter than 3.
-fn wanted(n: usize, g: usize, r: usize, plan: Admitted) -> u8
-    requires { plan.number ≡ 0 → Ready n g plan.columns }
-    ensures { WantedNumber n r (plan_of n (n - g) plan.columns) plan.number result }
+// An admitted plan where the resolution r is wanted: no word may be shorter than r. An admitted plan has none shorter than 3.
+fn check_resolution(n: usize, g: usize, r: usize, plan: AcceptedPlan) -> Result<(), Refusal>
+    requires { Ready n g plan.columns }
+    ensures { Lowest (WantedFault n r (plan_of n (n - g) plan.columns)) (refusal_of result) }
 {
-    let number = plan.number;
-    if number != 0 {
-        return number;
-    }
     if r <= 3 {
-        return 0;
+        return Ok(());
     }
-    let columns = plan.columns;
-    let counts = measures::pattern(n, g, columns);
+    let counts = measures::pattern(n, g, plan.columns);
     if patterns::word_below(n, r, counts) {
-        return 7;
+        return Err(Refusal::ShortWord);
     }
-    0
+    Ok(())
 }
 
-// 5 if a mask is not 0 where plans must be bare of switches.
-fn switch_number(bare: bool, mask: u16) -> u8
-    ensures { Lowest (SwitchFault bare mask) result }
+// A plan where the resolution r is wanted.
+fn check_wanted<P: Form>(n: usize, g: usize, r: usize, plan: P) -> Result<(), Refusal>
+    ensures { Lowest (wanted n r (P.given plan n g)) (refusal_of result) }
 {
-    if !bare {
-        return 0;
-    }
-    if mask == 0 {
-        return 0;
-    }
-    5
+    let admitted = plan.admit(n, g)?;
+    check_resolution(n, g, r, admitted)
 }
 
-// The number of a design record.
-fn design_refusal(n: usize, g: usize, r: usize, bare: bool, design: Design) -> u8
-    ensures { Lowest (design_wanted n g r bare design) result }
+// A mask must be 0 where plans must be bare of switches.
+fn check_switches(bare: bool, mask: u16) -> Result<(), Refusal>
+    ensures { Lowest (SwitchFault bare mask) (refusal_of result) }
 {
-    let plan = admission::admit_design(n, g, design);
-    lower_of(wanted(n, g, r, plan), switch_number(bare, design.mask))
+    if bare && mask != 0 {
+        return Err(Refusal::Range);
+    }
+    Ok(())
 }
 
-// The number of the bytes of a plan, of which there are as many as a plan takes.
-fn columns_refusal(n: usize, g: usize, r: usize, bare: bool, plan: &[u8]) -> u8
+// The lower of two refusals.
+fn lower(a: Result<(), Refusal>, b: Result<(), Refusal>) -> Result<(), Refusal>
+    ensures { Lower (refusal_of a) (refusal_of b) (refusal_of result) }
+{
+    both(a, b)?;
+    Ok(())
+}
+
+// A plan and its mask.
+fn check_plan<P: Form>(
+    n: usize,
+    g: usize,
+    r: usize,
+    bare: bool,
+    plan: P,
+    mask: u16,
+) -> Result<(), Refusal>
+    ensures { Lowest (either (wanted n r (P.given plan n g)) (SwitchFault bare mask)) (refusal_of result) }
+{
+    lower(check_wanted(n, g, r, plan), check_switches(bare, mask))
+}
+
+// A design record.
+fn check_record(n: usize, g: usize, r: usize, bare: bool, design: Design) -> Result<(), Refusal>
+    ensures { Lowest (design_wanted n g r bare design) (refusal_of result) }
+{
+    check_plan(n, g, r, bare, design, design.mask)
+}
+
+// The bytes of a plan, of which there are as many as a plan takes.
+fn check_bytes(n: usize, g: usize, r: usize, bare: bool, plan: &[u8]) -> Result<(), Refusal>
     requires { length plan.now ≡ plan_bytes n }
-    ensures { Lowest (columns_wanted n g r bare plan.now) result }
+    ensures { Lowest (columns_wanted n g r bare plan.now) (refusal_of result) }
 {
-    let admitted = admission::admit_columns(n, g, plan);
-    lower_of(
-        wanted(n, g, r, admitted),
-        switch_number(bare, mask_in(n, plan)),
-    )
+    check_plan(n, g, r, bare, Bytes(plan), mask_in(n, plan))
 }
 
-// The number of a list of columns alone.
-pub fn bare_refusal(n: usize, g: usize, r: usize, list: &[u8]) -> u8
-    ensures { Lowest (bare_wanted n g r list.now) result }
+// A list of columns alone.
+pub fn check_bare(n: usize, g: usize, r: usize, list: &[u8]) -> Result<(), Refusal>
+    ensures { Lowest (bare_wanted n g r list.now) (refusal_of result) }
 {
-    let plan = admission::admit_bare(n, g, list);
-    wanted(n, g, r, plan)
+    check_wanted(n, g, r, Bare(list))
 }
 
-// One record more: the lower of its number and that of the records before it.
-fn judge(n: usize, g: usize, r: usize, bare: bool, design: Design, lowest: u8) -> u8
-    ensures { JudgedMore (design_wanted n g r bare design) lowest result }
+// The sizes and every record of a list.
+pub fn check_records(
+    n: usize,
+    g: usize,
+    r: usize,
+    bare: bool,
+    list: &[Design],
+) -> Result<(), Refusal>
+    ensures { Lowest (wanted_records_faults n g r bare list.now) (refusal_of result) }
 {
-    let number = design_refusal(n, g, r, bare, design);
-    lower_of(lowest, number)
-}
-
-// The lowest number of any record of a list, or of the sizes.
-pub fn records_refusal(n: usize, g: usize, r: usize, bare: bool, list: &[Design]) -> u8
-    ensures { Lowest (wanted_records_faults n g r bare list.now) result }
-{
-    let mut i: usize = 0;
-    let mut lowest = bounds_number(n, g, r);
-    while i < list.len() {
-        let d = list[i];
-        lowest = judge(n, g, r, bare, d, lowest);
-        i += 1;
+    let mut lowest = check_bounds(n, g, r);
+    for design in list {
+        let of_record = check_record(n, g, r, bare, *design);
+        lowest = lower(lowest, of_record);
     }
     lowest
 }
 
-// The lowest number of any plan of a list of bytes, the sizes being in bounds.
-fn each_refusal(n: usize, g: usize, r: usize, bare: bool, plans: &[u8]) -> u8
+// Every plan of a list of bytes, the sizes being in bounds.
+fn check_each(n: usize, g: usize, r: usize, bare: bool, plans: &[u8]) -> Result<(), Refusal>
     requires { Lowest (size_faults n g r) 0 }
-    ensures { AllJudged n g r bare plans.now (plan_count n (length plans.now)) result }
+    ensures { AllJudged n g r bare plans.now (plan_count n (length plans.now)) (refusal_of result) }
 {
-    let count = plan_count(n, plans.len());
-    let mut lowest: u8 = 0;
-    let mut i: usize = 0;
-    while i < count {
+    let mut lowest = Ok(());
+    for i in 0..plan_count(n, plans.len()) {
         let plan = plan_at(n, plans, i);
-        let number = columns_refusal(n, g, r, bare, plan);
-        lowest = lower_of(lowest, number);
-        i += 1;
+        let of_plan = check_bytes(n, g, r, bare, plan);
+        lowest = lower(lowest, of_plan);
     }
     lowest
 }
 
-// The lowest number of any plan of a list of bytes, of its length, or of the sizes.
-pub fn plans_refusal(n: usize, g: usize, r: usize, bare: bool, plans: &[u8]) -> u8
-    ensures { Lowest (wanted_plans_faults n g r bare plans.now) result }
+// The sizes, the length of a list of bytes and every plan of it.
+pub fn check_plans(n: usize, g: usize, r: usize, bare: bool, plans: &[u8]) -> Result<(), Refusal>
+    ensures { Lowest (wanted_plans_faults n g r bare plans.now) (refusal_of result) }
 {
-    let number = bounds_number(n, g, r);
-    if number != 0 {
-        return number;
-    }
+    check_bounds(n, g, r)?;
     if !whole_plans(n, plans.len()) {
-        return 4;
+        return Err(Refusal::Count);
     }
-    each_refusal(n, g, r, bare, plans)
+    check_each(n, g, r, bare, plans)
 }

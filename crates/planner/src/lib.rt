@@ -9,6 +9,7 @@ ghost use Rattle.regular.specs.Refusals.{either, Lowest};
 ghost use Rattle.regular.specs.Given.{of_words, of_runs, of_columns, FillsFor};
 ghost use Rattle.regular.specs.Forms.{StandardInto, WordsInto};
 ghost use Rattle.regular.specs.Measures.{PatternInto, ResolutionInto, DistancesInto, ChoosesLess};
+ghost use Rattle.regular.specs.Answers.{refusal_of, checked_of, compared_of};
 ghost use Rattle.regular.specs.Comparisons.{Compares, ChecksWitness, Told, compared_number, checked_number};
 ghost use Rattle.regular.specs.SmallestAnswers.{ReducesInto, ReducesEach};
 ghost use Rattle.regular.specs.Loads.{LoadsInto};
@@ -16,10 +17,21 @@ ghost use Rattle.regular.specs.Catalogues.{ListsBytes};
 ghost use Rattle.regular.specs.Book.{WritesPlans};
 ghost use Rattle.regular.specs.ReadingAnswers.{ReadsPlans};
 
+use admission::{Bytes, RunList, Words};
 use regular::{
-    BookAnswer, CatalogueAnswer, Checked, Compared, FormAnswer, ReadAnswer, SignsAnswer,
-    StateAnswer,
+    BookAnswer, CatalogueAnswer, Choice, FormAnswer, ReadAnswer, Refusal, SignsAnswer, StateAnswer,
+    Verdict,
 };
+
+// The number of a refusal, 0 if there is none.
+fn number(answer: Result<(), Refusal>) -> u8
+    ensures { result ≡ refusal_of answer }
+{
+    match answer {
+        Ok(()) => 0,
+        Err(e) => e.number(),
+    }
+}
 
 // Words and signs to columns.
 #[unsafe(no_mangle)]
@@ -32,7 +44,7 @@ pub extern "C" fn plan_columns_of_words(
 ) -> u8
     ensures { StandardInto n g (of_words n g words.now signs) plan.old plan.new result }
 {
-    forms::columns_of_words(n, g, words, signs, plan)
+    number(forms::columns_of(n, g, Words { list: words, signs }, plan))
 }
 
 // Run table to columns.
@@ -40,7 +52,7 @@ pub extern "C" fn plan_columns_of_words(
 pub extern "C" fn plan_columns_of_runs(n: usize, g: usize, runs: &[u16], plan: &mut [u8]) -> u8
     ensures { StandardInto n g (of_runs n g runs.now) plan.old plan.new result }
 {
-    forms::columns_of_runs(n, g, runs, plan)
+    number(forms::columns_of(n, g, RunList(runs), plan))
 }
 
 // Columns to words and signs.
@@ -53,7 +65,7 @@ pub extern "C" fn plan_words_of_columns(
 ) -> SignsAnswer
     ensures { WordsInto n g (of_columns n g plan.now) words.old words.new result }
 {
-    forms::words_of_columns(n, g, plan, words)
+    SignsAnswer::from(forms::words_of(n, g, Bytes(plan), words))
 }
 
 // Columns to run table.
@@ -62,7 +74,7 @@ pub extern "C" fn plan_runs_of_columns(n: usize, g: usize, plan: &[u8], runs: &m
     ensures { FillsFor (of_columns n g plan.now) (2 ^ (n - g))
         (λ _. ListedWith n (n - g) plan.now (mask_in n plan.now)) runs.old runs.new result }
 {
-    forms::list_runs_of_columns(n, g, plan, runs)
+    number(forms::list_runs_of_columns(n, g, plan, runs))
 }
 
 // Words and signs to run table.
@@ -77,7 +89,7 @@ pub extern "C" fn plan_runs_of_words(
     ensures { FillsFor (of_words n g words.now signs) (2 ^ (n - g)) (RunsOfPlan n (n - g) ListedWith) runs.old
         runs.new result }
 {
-    forms::list_runs_of_words(n, g, words, signs, runs)
+    number(forms::list_runs_of_words(n, g, Words { list: words, signs }, runs))
 }
 
 // The pattern, lengths 1 to n.
@@ -90,7 +102,7 @@ pub extern "C" fn plan_pattern_of_columns(
 ) -> u8
     ensures { PatternInto n (of_columns n g columns.now) pattern.old pattern.new result }
 {
-    measures::pattern_of_columns(n, g, columns, pattern)
+    number(measures::pattern_of(n, g, Bytes(columns), pattern))
 }
 
 // The distance counts, 0 to n.
@@ -103,7 +115,7 @@ pub extern "C" fn plan_distances_of_columns(
 ) -> u8
     ensures { DistancesInto n (of_columns n g columns.now) counts.old counts.new result }
 {
-    measures::distances_of_columns(n, g, columns, counts)
+    number(measures::distances_of(n, g, Bytes(columns), counts))
 }
 
 // The pattern, lengths 1 to n.
@@ -117,7 +129,7 @@ pub extern "C" fn plan_pattern_of_words(
 ) -> u8
     ensures { PatternInto n (of_words n g words.now signs) pattern.old pattern.new result }
 {
-    measures::pattern_of_words(n, g, words, signs, pattern)
+    number(measures::pattern_of(n, g, Words { list: words, signs }, pattern))
 }
 
 // The distance counts, 0 to n.
@@ -131,7 +143,7 @@ pub extern "C" fn plan_distances_of_words(
 ) -> u8
     ensures { DistancesInto n (of_words n g words.now signs) counts.old counts.new result }
 {
-    measures::distances_of_words(n, g, words, signs, counts)
+    number(measures::distances_of(n, g, Words { list: words, signs }, counts))
 }
 
 // The pattern, lengths 1 to n.
@@ -139,7 +151,7 @@ pub extern "C" fn plan_distances_of_words(
 pub extern "C" fn plan_pattern_of_runs(n: usize, g: usize, runs: &[u16], pattern: &mut [u16]) -> u8
     ensures { PatternInto n (of_runs n g runs.now) pattern.old pattern.new result }
 {
-    measures::pattern_of_runs(n, g, runs, pattern)
+    number(measures::pattern_of(n, g, RunList(runs), pattern))
 }
 
 // The distance counts, 0 to n.
@@ -147,7 +159,7 @@ pub extern "C" fn plan_pattern_of_runs(n: usize, g: usize, runs: &[u16], pattern
 pub extern "C" fn plan_distances_of_runs(n: usize, g: usize, runs: &[u16], counts: &mut [u16]) -> u8
     ensures { DistancesInto n (of_runs n g runs.now) counts.old counts.new result }
 {
-    measures::distances_of_runs(n, g, runs, counts)
+    number(measures::distances_of(n, g, RunList(runs), counts))
 }
 
 // The resolution, in one place.
@@ -160,7 +172,7 @@ pub extern "C" fn plan_resolution_of_columns(
 ) -> u8
     ensures { ResolutionInto n (of_columns n g columns.now) resolution.old resolution.new result }
 {
-    measures::list_resolution_of_columns(n, g, columns, resolution)
+    number(measures::list_resolution_of(n, g, Bytes(columns), resolution))
 }
 
 // The resolution, in one place.
@@ -174,7 +186,7 @@ pub extern "C" fn plan_resolution_of_words(
 ) -> u8
     ensures { ResolutionInto n (of_words n g words.now signs) resolution.old resolution.new result }
 {
-    measures::list_resolution_of_words(n, g, words, signs, resolution)
+    number(measures::list_resolution_of(n, g, Words { list: words, signs }, resolution))
 }
 
 // The resolution, in one place.
@@ -187,7 +199,7 @@ pub extern "C" fn plan_resolution_of_runs(
 ) -> u8
     ensures { ResolutionInto n (of_runs n g runs.now) resolution.old resolution.new result }
 {
-    measures::list_resolution_of_runs(n, g, runs, resolution)
+    number(measures::list_resolution_of(n, g, RunList(runs), resolution))
 }
 
 // Which of two lists of words, taken without signs, has less aberration: 1 the first, 2 the second, 0 if refused.
@@ -195,7 +207,11 @@ pub extern "C" fn plan_resolution_of_runs(
 pub extern "C" fn plan_less_aberration(n: usize, g: usize, first: &[u16], second: &[u16]) -> u8
     ensures { ChoosesLess n (n - g) (of_words n g first.now 0) (of_words n g second.now 0) result }
 {
-    aberration::choice(n, g, first, second)
+    match aberration::choice(n, g, first, second) {
+        Ok(Choice::First) => 1,
+        Ok(Choice::Second) => 2,
+        Err(_) => 0,
+    }
 }
 
 // The number of its refusal.
@@ -203,17 +219,17 @@ pub extern "C" fn plan_less_aberration(n: usize, g: usize, first: &[u16], second
 pub extern "C" fn plan_aberration_refusal(n: usize, g: usize, first: &[u16], second: &[u16]) -> u8
     ensures { Lowest (either (of_words n g first.now 0).faults (of_words n g second.now 0).faults) result }
 {
-    aberration::aberration_refusal(n, g, first, second)
+    number(aberration::aberration_refusal(n, g, first, second))
 }
 
 // The answer of a check as a number.
-fn checked_number(c: Checked) -> u32
-    ensures { result ≡ checked_number c }
+fn checked_number(c: Result<bool, Refusal>) -> u32
+    ensures { result ≡ checked_number (checked_of c) }
 {
     match c {
-        Checked::Yes => 65536,
-        Checked::No => 131072,
-        Checked::Refused(k) => k as u32,
+        Ok(true) => 65536,
+        Ok(false) => 131072,
+        Err(e) => u32::from(e.number()),
     }
 }
 
@@ -233,13 +249,13 @@ pub extern "C" fn plan_check_witness(
 }
 
 // The answer of a comparison as a number.
-fn compared_number(c: Compared) -> u32
-    ensures { result ≡ compared_number c }
+fn compared_number(c: Result<Verdict, Refusal>) -> u32
+    ensures { result ≡ compared_number (compared_of c) }
 {
     match c {
-        Compared::Same(mask) => 65536 + mask as u32,
-        Compared::Different(l) => 131072 + l as u32,
-        Compared::Refused(k) => k as u32,
+        Ok(Verdict::Same(mask)) => 65536 + u32::from(mask),
+        Ok(Verdict::Different(l)) => 131072 + u32::from(l),
+        Err(e) => u32::from(e.number()),
     }
 }
 
@@ -255,7 +271,7 @@ pub extern "C" fn plan_compare_columns(
     ensures { Told (Compares n (of_columns n g first.now) (of_columns n g second.now) witness.old witness.new)
         compared_number result }
 {
-    compared_number(comparison::compare_columns(n, g, first, second, witness))
+    compared_number(comparison::compare(n, g, Bytes(first), Bytes(second), witness))
 }
 
 // The comparison of two run tables.
@@ -270,7 +286,7 @@ pub extern "C" fn plan_compare_runs(
     ensures { Told (Compares n (of_runs n g first.now) (of_runs n g second.now) witness.old witness.new)
         compared_number result }
 {
-    compared_number(comparison::compare_runs(n, g, first, second, witness))
+    compared_number(comparison::compare(n, g, RunList(first), RunList(second), witness))
 }
 
 // The smallest form of the plan of a list of columns, the names of a witness to it, and its first place in a list of plans.
@@ -286,7 +302,7 @@ pub extern "C" fn plan_smallest_of_columns(
     ensures { ReducesInto n g (of_columns n g columns.now) list.now smallest.old smallest.new
         witness.old witness.new result }
 {
-    smallest_calls::smallest_of_columns(n, g, columns, list, smallest, witness)
+    FormAnswer::from(smallest_calls::smallest_into(n, g, Bytes(columns), list, smallest, witness))
 }
 
 // The smallest form of the plan of a run table, the names and the mask of a witness to it, and its first place in a list of plans.
@@ -302,7 +318,7 @@ pub extern "C" fn plan_smallest_of_runs(
     ensures { ReducesInto n g (of_runs n g runs.now) list.now smallest.old smallest.new witness.old
         witness.new result }
 {
-    smallest_calls::list_smallest_of_runs(n, g, runs, list, smallest, witness)
+    FormAnswer::from(smallest_calls::smallest_into(n, g, RunList(runs), list, smallest, witness))
 }
 
 // The smallest forms of several plans one after another, and a witness to each.
@@ -316,7 +332,7 @@ pub extern "C" fn plan_smallest_of_plans(
 ) -> u8
     ensures { ReducesEach n g plans.now forms.old forms.new witnesses.old witnesses.new result }
 {
-    smallest_calls::smallest_of_plans(n, g, plans, forms, witnesses)
+    number(smallest_calls::smallest_of_plans(n, g, plans, forms, witnesses))
 }
 
 // A load of a seed, and the state for the next.
@@ -324,7 +340,13 @@ pub extern "C" fn plan_smallest_of_plans(
 pub extern "C" fn plan_load(n: usize, g: usize, seed: u32, plan: &mut [u8]) -> StateAnswer
     ensures { LoadsInto n g seed plan.old plan.new result }
 {
-    loads::list_load(n, g, seed, plan)
+    match loads::list_load(n, g, seed, plan) {
+        Ok(state) => StateAnswer { number: 0, state },
+        Err(e) => StateAnswer {
+            number: e.number(),
+            state: seed,
+        },
+    }
 }
 
 // The catalogue, entry after entry as plans.
@@ -351,7 +373,7 @@ pub extern "C" fn plan_write_book(
 ) -> BookAnswer
     ensures { WritesPlans n g r plans.now book.old book.new result.number result.count }
 {
-    book::write_book(n, g, r, plans, book)
+    BookAnswer::from(book::write_book(n, g, r, plans, book))
 }
 
 // The entries of a book, one after another as plans.
@@ -359,5 +381,5 @@ pub extern "C" fn plan_write_book(
 pub extern "C" fn plan_read_book(book: &[u8], columns: &mut [u8]) -> ReadAnswer
     ensures { ReadsPlans book.now columns.old columns.new result }
 {
-    reading::list_book(book, columns)
+    ReadAnswer::from(reading::list_book(book, columns))
 }

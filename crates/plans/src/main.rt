@@ -16,31 +16,19 @@ const LINE: usize = 9;
 // The bytes that suffice for any output (`output_room`).
 const OUTPUT: usize = 102 + 1024 * 177 + 15;
 
-#[derive(Clone, Copy)]
-enum Got {
-    Byte(u8),
-    End,
-}
-
-// One byte of standard input. A read of one byte consumes no more than that.
-fn read_byte() -> Got {
+// One byte of standard input, none at its end. A read of one byte consumes no more than that.
+fn read_byte() -> Option<u8> {
     let mut b = [0u8; 1];
     let got = io::read_full(STDIN, &mut b);
-    if got == 1 { Got::Byte(b[0]) } else { Got::End }
+    if got == 1 { Some(b[0]) } else { None }
 }
 
 // Reads up to the line's end. A line of 2^64 bytes and more is read no further.
 fn skip_line() {
-    let mut left: u64 = 18446744073709551615;
-    while 0 < left {
-        let got = read_byte();
-        let Got::Byte(b) = got else {
-            return;
-        };
-        if b == b'\n' {
+    for _ in 0..u64::MAX {
+        if let None | Some(b'\n') = read_byte() {
             return;
         }
-        left -= 1;
     }
 }
 
@@ -50,20 +38,14 @@ fn read_line(line: &mut [u8]) -> usize
     requires { line_room ≤ length line.old }
     ensures { IsPrefixLen result line.new }
 {
-    let mut n: usize = 0;
-    while n < line.len() {
-        let got = read_byte();
-        let Got::Byte(b) = got else {
-            return n;
-        };
-        if b == b'\n' {
-            return n;
+    for (n, place) in line.iter_mut().enumerate() {
+        match read_byte() {
+            None | Some(b'\n') => return n,
+            Some(b) => *place = b,
         }
-        line[n] = b;
-        n += 1;
     }
     skip_line();
-    n
+    line.len()
 }
 
 // Writes what is printed for a line: the one function that writes.

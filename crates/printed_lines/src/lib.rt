@@ -8,7 +8,6 @@ ghost use Rattle.printed_lines.specs.Text.{TextAdded, decimal, next, columns_tex
 ghost use Rattle.printed_lines.specs.Text.{start, entry, EntryLine, header_most, entry_most, entry_room};
 ghost use Rattle.printed_lines.specs.Listed.{Listable};
 
-use bits::{as_index, wide};
 use regular::{Design, FACTORS};
 
 // A text as it is.
@@ -16,14 +15,8 @@ fn add_text(text: &[u8], at: usize, out: &mut [u8]) -> usize
     requires { at + length text.now ≤ length out.old }
     ensures { TextAdded out.old out.new at text.now result }
 {
-    let mut i: usize = 0;
-    let mut end = at;
-    while i < text.len() {
-        let b = text[i];
-        out[end] = b;
-        i += 1;
-        end += 1;
-    }
+    let end = at + text.len();
+    out[at..end].copy_from_slice(text);
     end
 }
 
@@ -51,12 +44,9 @@ fn add_columns(n: usize, columns: [u8; FACTORS], at: usize, out: &mut [u8]) -> u
     requires { (n ≤ 16) × (at + 4 * n + 17 ≤ length out.old) }
     ensures { TextAdded out.old out.new at (columns_text n columns) result × (result ≤ at + 4 * n) }
 {
-    let mut f: usize = 0;
     let mut end = at;
-    while f < n {
-        let column = as_index(columns[f]) as u64;
-        end = add_next(column, end, out);
-        f += 1;
+    for f in 0..n {
+        end = add_next(u64::from(columns[f]), end, out);
     }
     end
 }
@@ -66,12 +56,10 @@ fn add_counts(n: usize, counts: [u16; FACTORS], at: usize, out: &mut [u8]) -> us
     requires { (n ≤ 16) × (at + 6 * (n - 2) + 15 ≤ length out.old) }
     ensures { TextAdded out.old out.new at (counts_text n counts) result × (result ≤ at + 6 * (n - 2)) }
 {
-    let mut l: usize = 2;
     let mut end = at;
-    while l < n {
-        let count = wide(counts[l]) as u64;
+    for l in 2..n {
+        let count = u64::from(counts[l]);
         end = add_next(count, end, out);
-        l += 1;
     }
     end
 }
@@ -90,7 +78,7 @@ fn add_start(
 {
     let a = add_decimal(place as u64, at, out);
     let b = add_text(b" res", a, out);
-    let c = add_next(resolution as u64, b, out);
+    let c = add_next(u64::from(resolution), b, out);
     let d = add_text(b" columns", c, out);
     add_columns(n, columns, d, out)
 }
@@ -119,12 +107,10 @@ pub fn entry_line(n: usize, g: usize, place: usize, d: Design, at: usize, out: &
     requires { Listable n g d × (place ≤ 1024) × (at + entry_room ≤ length out.old) }
     ensures { EntryLine n g place d out.old out.new at result × (result ≤ at + entry_most) }
 {
-    let answer = measures::resolution_of_design(n, g, d);
+    let resolution = measures::resolution_of(n, g, d).unwrap();
     let mut counts = [0u16; FACTORS];
-    measures::pattern_of_design(n, g, d, &mut counts);
-    let resolution = answer.resolution;
-    let columns = d.columns;
-    add_entry(n, place, resolution, columns, counts, at, out)
+    measures::pattern_of(n, g, d, &mut counts).unwrap();
+    add_entry(n, place, resolution, d.columns, counts, at, out)
 }
 
 // The header: the size and the entry count.
@@ -147,7 +133,7 @@ pub fn refused_line(number: u8, out: &mut [u8]) -> usize
     ensures { TextAdded out.old out.new 0 (refused number) result × (result ≤ header_most) }
 {
     let a = add_text(b"refused", 0, out);
-    let b = add_next(number as u64, a, out);
+    let b = add_next(u64::from(number), a, out);
     add_text(b"\n", b, out)
 }
 

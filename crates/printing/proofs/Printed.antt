@@ -2,6 +2,7 @@
 use mathlib.Core.Path.{◌≡◌, sym, subst}
 use mathlib.Core.List.{List, []}
 use Prim.Native.Nat.{ℕ, suc, ◌+◌, ◌-◌, ◌≤◌, ◌<◌}
+use native.Mathlib.Numerals.{add-one}
 use native.Mathlib.Omega.{arith}
 use lib.ListN.{length, get_or, replicate, length-replicate}
 use Rattle.regular.specs.Refusals.{Lowest}
@@ -37,16 +38,13 @@ line_more {n} {g} {k} {list} h l e =
       text = adds_more l.text e.text;
     }
 
-pub lines_turn : (n g place : ℕ) (list : List Design) (d : Design) {xs ys zs : List ℕ} {at mid end : ℕ} → 1 ≤ place → place - 1 < length list
-    → Listable n g (get_or list (place - 1) blank) → EntryLines n g (place - 1) list xs ys at mid
-    → EntryLine n g place (get_or list (place - 1) d) ys zs mid end
-    → EntryLines n g (place + 1 - 1) list xs zs at end
-lines_turn n g place list d {xs} {ys} {zs} {at} {mid} {end} low h a l e =
-    let p : place ≡ suc (place - 1) = omega arith in
-    let q : suc (place - 1) ≡ place + 1 - 1 = omega arith in
-    let f = subst (λ (k : ℕ). EntryLine n g k (get_or list (place - 1) blank) ys zs mid end) p
-    (subst (λ (c : Design). EntryLine n g place c ys zs mid end) (get_d_within list (place - 1) d blank h) e) in
-    subst (λ (k : ℕ). EntryLines n g k list xs zs at end) q (line_more a l f)
+pub lines_turn : (n g i : ℕ) (list : List Design) (d : Design) {xs ys zs : List ℕ} {at mid end : ℕ} → i < length list
+    → Listable n g (get_or list i blank) → EntryLines n g i list xs ys at mid → EntryLine n g (i + 1) (get_or list i d) ys zs mid end
+    → EntryLines n g (i + 1) list xs zs at end
+lines_turn n g i list d {xs} {ys} {zs} {at} {mid} {end} h a l e =
+    let f = subst (λ (k : ℕ). EntryLine n g k (get_or list i blank) ys zs mid end) (add-one i)
+    (subst (λ (c : Design). EntryLine n g (i + 1) c ys zs mid end) (get_d_within list i d blank h) e) in
+    subst (λ (k : ℕ). EntryLines n g k list xs zs at end) (sym (add-one i)) (line_more a l f)
 
 pub lines_all : {n g place count : ℕ} {list : List Design} {xs ys : List ℕ} {at end : ℕ} → EntryLines n g place list xs ys at end → place ≡ count
     → EntryLines n g count list xs ys at end

@@ -39,12 +39,10 @@ fn add_entries(
     requires { (count ≤ 1024) × AllListable n g count list × (at ≤ header_most) × (output_room ≤ length out.old) }
     ensures { EntryLines n g count list out.old out.new at result × (result ≤ output_room) }
 {
-    let mut place: usize = 1;
     let mut end = at;
-    while place <= count {
-        let d = list[place - 1];
-        end = entry_line(n, g, place, d, end, out);
-        place += 1;
+    for i in 0..count {
+        let d = list[i];
+        end = entry_line(n, g, i + 1, d, end, out);
     }
     end
 }
@@ -72,9 +70,8 @@ pub fn output(line: &[u8], out: &mut [u8]) -> usize
     requires { output_room ≤ length out.old }
     ensures { Printed (Output line.now) out.old out.new result }
 {
-    let size = parse(line);
-    if size.ok {
-        return size_output(size.n, size.g, size.r, out);
+    match parse(line) {
+        Some(size) => size_output(size.n, size.g, size.r, out),
+        None => no_size_line(out),
     }
-    no_size_line(out)
 }

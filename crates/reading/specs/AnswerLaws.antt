@@ -118,6 +118,12 @@ module _ (book : List ℕ) (header : ReadAnswer) (x : Answered (HeaderChecks boo
           low = x.low;
         })
 
+-- a refused header is the answer
+pub answered_stays : (takes : ℕ → ℕ → ℕ) (places : ℕ) (book : List ℕ) (header : ReadAnswer) → Answered (HeaderChecks book) book header
+    → (header.number ≡ 0 → ⊥) → Answered (Reading takes places book) book header
+answered_stays takes places book header x ne =
+    answered_refused header.number header (x.refused (omega arith)) (refuses header.number ne x.number) ne
+
 -- header, room and entries make the reading
 pub answered : (takes : ℕ → ℕ → ℕ) (places : ℕ) (book : List ℕ) (header : ReadAnswer) (room : Bool) (a : ReadAnswer)
     → Answered (HeaderChecks book) book header → Judged book header room a

@@ -5,3 +5,4 @@ pub mod Patterns
 pub mod Entries
 pub mod AnswerLaws
 pub mod Filling
+pub mod Order

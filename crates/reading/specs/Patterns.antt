@@ -13,7 +13,7 @@ use Rattle.regular.specs.ReadingLaws.{record_zero}
 use Rattle.regular.specs.Refusals.{bare_faults}
 use Rattle.regular.specs.RefusalLaws.{lowest_none, lowest_unique, none_lowest}
 use Rattle.regular.specs.Smallest.{IsEntry}
-use Rattle.regular.specs.declared.Admitted.{Admitted}
+use Rattle.regular.specs.Answers.{Admitted}
 use Rattle.admission.specs.Admission.{Admission, Ready, ready}
 use Rattle.measures.specs.Measured.{pattern_given}
 use Rattle.plan_lists.specs.Judged.{bare_wanted}
@@ -23,7 +23,7 @@ use Rattle.reading_laws.specs.Cuts.{each_cut, each_part}
 use Rattle.reading.specs.Answers.{CountsAt}
 
 -- the two bytes at a place
-two_bytes : (book : List ℕ) (at : ℕ) → at + 2 ≤ length book → take 2 (drop at book) ≡ get_or book at 0 ∷ get_or book (at + 1) 0 ∷ []
+pub two_bytes : (book : List ℕ) (at : ℕ) → at + 2 ≤ length book → take 2 (drop at book) ≡ get_or book at 0 ∷ get_or book (at + 1) 0 ∷ []
 two_bytes book at h =
     let next : suc at ≡ at + 1 = omega arith in
     ap (take 2) (drop-cons book at 0 (omega arith) ∙ ap (λ (l : List ℕ). get_or book at 0 ∷ l) (drop-cons book (suc at) 0 (omega arith)))
@@ -60,17 +60,17 @@ module _ (counts book : List ℕ) (at k : ℕ) (room : at + k * 2 ≤ length boo
 
 -- an entry is admitted
 module _ (n g r : ℕ) (c : List ℕ) (is : IsEntry n g r c) (a : Admitted) (ad : Admission n g (of_bare n g c) a) where
-  admitted : a.number ≡ 0
-  admitted =
+  pub entry_admitted : a.number ≡ 0
+  entry_admitted =
       lowest_unique (bare_faults n g c) a.number 0 ad.lowest
       (lowest_none (bare_faults n g c) (λ k f. none_lowest (bare_wanted n g r c) (entry_accepted n g r c is) k (inl f)))
 
   pub entry_ready : Ready n g a.columns
-  entry_ready = ready ad admitted
+  entry_ready = ready ad entry_admitted
 
   -- the pattern of its standard columns is its own
   pub entry_pattern : (counts : List ℕ) → Pattern n (plan_of n (n - g) a.columns) counts → Pattern n (plan_of n (n - g) c) counts
-  entry_pattern counts p = pattern_given ad admitted counts p
+  entry_pattern counts p = pattern_given ad entry_admitted counts p
 
 -- the record of the pattern, and what it says
 module _ (n g : ℕ) (book : List ℕ) (i at len k : ℕ) (place : at ≡ pattern_place n i) (size : len ≡ pattern_length n)

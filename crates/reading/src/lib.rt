@@ -1,42 +1,42 @@
 // The reader of books: every byte is judged first, in order, then the lent list is filled.
 #![tactic(auto)]
 
-ghost use Rattle.std.specs.Prelude.{◌≡◌, ℕ, ◌+◌, ◌*◌, ◌-◌, ◌≤◌, ◌<◌, length};
+ghost use Rattle.std.specs.Prelude.{◌≡◌, ℕ, ◌+◌, ◌*◌, ◌-◌, ◌≤◌, ◌<◌, length, Ok};
 ghost use Rattle.gf2.specs.Answers.{Tells};
 ghost use Rattle.regular.specs.Sizes.{Sized};
 ghost use Rattle.regular.specs.Smallest.{Before, IsEntry};
 ghost use Rattle.regular.specs.PlanBytes.{plan_start};
 ghost use Rattle.regular.specs.Book.{header_length, most_plans};
 ghost use Rattle.regular.specs.Reading.{RecordAt, HeaderChecks, columns_in, EntryRises, ColumnsChecks, PatternChecks, EntryChecks, EntriesChecks, Reading};
-ghost use Rattle.regular.specs.ReadingAnswers.{refused_book, ReadsPlans, places_of, ReadsDesigns};
-ghost use Rattle.entry_test.specs.Testing.{KeptTables};
+ghost use Rattle.regular.specs.ReadingAnswers.{ReadsPlans, places_of, ReadsDesigns};
+ghost use Rattle.regular.specs.Answers.{refusal_of, read_answer};
+ghost use Rattle.entry_test.specs.Testing.{KeptIn};
 ghost use Rattle.reading.specs.Answers.{EntryThere, earlier_columns, NumberAt, CountsAt, HeaderRead, Answered, Judged, DesignIn};
 
-use admission::{array_of, bounds_number};
-use bits::as_index;
+use admission::{Bare, Form, array_of, check_bounds};
 use book_layout::{
     BYTE_VALUES, COLUMNS_KIND, HEADER_KIND, HEADER_LENGTH, PATTERN_KIND, book_length,
     pattern_length,
 };
-use column_tables::{FactorSets, Table};
+use column_tables::SearchTables;
 use entry_test::is_entry_after;
 use plan_layout::{plan_start, put_plan};
-use regular::{Design, FACTORS, NUMBERS, ReadAnswer};
+use regular::{BookSize, Design, FACTORS, Refusal};
 
-// 10 or 11 if no whole record of this kind and length stands at a place.
-fn record_number(kind: u8, len: usize, book: &[u8], at: usize) -> u8
-    ensures { RecordAt kind len book.now at result }
+// Refused if no whole record of this kind and length stands at a place.
+fn check_record(kind: u8, len: usize, book: &[u8], at: usize) -> Result<(), Refusal>
+    ensures { RecordAt kind len book.now at (refusal_of result) }
 {
     if book.len() <= at {
-        return 10;
+        return Err(Refusal::Length);
     }
     if book[at] != kind {
-        return 11;
+        return Err(Refusal::Kind);
     }
     if book.len() - at < len {
-        return 10;
+        return Err(Refusal::Length);
     }
-    0
+    Ok(())
 }
 
 // The columns of entry i.
@@ -65,16 +65,7 @@ fn before(n: usize, c: &[u8], d: &[u8]) -> bool
     requires { (n ≤ length c.now) × (n ≤ length d.now) }
     ensures { Tells result (Before n c.now d.now) (Before n c.now d.now → ⊥) }
 {
-    let mut f: usize = 0;
-    while f < n {
-        let x = c[f];
-        let y = d[f];
-        if x != y {
-            return x < y;
-        }
-        f += 1;
-    }
-    false
+    c[..n] < d[..n]
 }
 
 // Whether entry i comes after the entry before it, where there is one.
@@ -88,34 +79,28 @@ fn entry_rises(n: usize, book: &[u8], i: usize) -> bool
     before(n, columns_in(n, book, i - 1), columns_in(n, book, i))
 }
 
-// The number of entry i's columns. The tables are those of the entry before; if the columns are true, they become theirs.
-fn columns_number(
+// Refused if entry i's columns are not there or not true. The tables are those of the entry before; if the columns are true, they become theirs.
+fn check_columns(
     n: usize,
     g: usize,
     r: usize,
     book: &[u8],
     i: usize,
-    a: &mut Table,
-    factors: &mut FactorSets,
-    sums: &mut FactorSets,
-) -> u8
-    requires { Sized n g r × (i ≤ most_plans) × KeptTables (earlier_columns n book.now i) a.old factors.old sums.old }
-    ensures { ColumnsChecks n g r book.now i result
-        × (result ≡ 0 → KeptTables (columns_in n book.now i) a.new factors.new sums.new) }
+    tables: &mut SearchTables,
+) -> Result<(), Refusal>
+    requires { Sized n g r × (i ≤ most_plans) × KeptIn (earlier_columns n book.now i) tables.old }
+    ensures { ColumnsChecks n g r book.now i (refusal_of result) × (refusal_of result ≡ 0 → KeptIn (columns_in n book.now i) tables.new) }
 {
-    let number = record_number((COLUMNS_KIND + n) as u8, 1 + n, book, book_length(n, i));
-    if number != 0 {
-        return number;
-    }
+    check_record((COLUMNS_KIND + n) as u8, 1 + n, book, book_length(n, i))?;
     let earlier = earlier_columns(n, book, i);
     let columns = columns_in(n, book, i);
-    if !is_entry_after(n, g, r, earlier, columns, a, factors, sums) {
-        return 12;
+    if !is_entry_after(n, g, r, earlier, columns, tables) {
+        return Err(Refusal::Untrue);
     }
     if !entry_rises(n, book, i) {
-        return 12;
+        return Err(Refusal::Untrue);
     }
-    0
+    Ok(())
 }
 
 // Whether a number of 16 bits stands at a place, low byte first.
@@ -123,13 +108,7 @@ fn has_number(x: u16, book: &[u8], at: usize) -> bool
     requires { at + 2 ≤ length book.now }
     ensures { Tells result (NumberAt x book.now at) (NumberAt x book.now at → ⊥) }
 {
-    if book[at] != (x % BYTE_VALUES) as u8 {
-        return false;
-    }
-    if book[at + 1] != (x / BYTE_VALUES) as u8 {
-        return false;
-    }
-    true
+    book[at..at + 2] == x.to_le_bytes()[..]
 }
 
 // Whether the counts for lengths 3 to n stand at a place.
@@ -137,206 +116,153 @@ fn has_counts(n: usize, counts: [u16; FACTORS], book: &[u8], at: usize) -> bool
     requires { (n ≤ 16) × (at + 2 * (n - 2) ≤ length book.now) }
     ensures { Tells result (CountsAt (n - 2) counts book.now at) (CountsAt (n - 2) counts book.now at → ⊥) }
 {
-    let mut i: usize = 2;
     let mut to = at;
-    while i < n {
+    for i in 2..n {
         if !has_number(counts[i], book, to) {
             return false;
         }
         to += 2;
-        i += 1;
     }
     true
 }
 
-// The number of entry i's pattern.
-fn pattern_number(n: usize, g: usize, book: &[u8], i: usize) -> u8
+// Refused if entry i's pattern is not there or not true.
+fn check_pattern(n: usize, g: usize, book: &[u8], i: usize) -> Result<(), Refusal>
     requires { ((r : ℕ) × IsEntry n g r (columns_in n book.now i)) × EntryThere n book.now i }
-    ensures { PatternChecks n g book.now i result }
+    ensures { PatternChecks n g book.now i (refusal_of result) }
 {
     let at = book_length(n, i) + 1 + n;
-    let number = record_number((PATTERN_KIND + n) as u8, pattern_length(n), book, at);
-    if number != 0 {
-        return number;
-    }
-    let plan = admission::admit_bare(n, g, columns_in(n, book, i));
-    let standard = plan.columns;
-    let counts = measures::pattern(n, g, standard);
+    check_record((PATTERN_KIND + n) as u8, pattern_length(n), book, at)?;
+    let plan = Bare(columns_in(n, book, i)).admit(n, g).unwrap();
+    let counts = measures::pattern(n, g, plan.columns);
     if !has_counts(n, counts, book, at + 1) {
-        return 12;
+        return Err(Refusal::Untrue);
     }
-    0
+    Ok(())
 }
 
-// The number of entry i. The tables are those of the entry before; if it is true, they become its own.
-fn entry_number(
+// Refused if entry i is not there or not true. The tables are those of the entry before; if it is true, they become its own.
+fn check_entry(
     n: usize,
     g: usize,
     r: usize,
     book: &[u8],
     i: usize,
-    a: &mut Table,
-    factors: &mut FactorSets,
-    sums: &mut FactorSets,
-) -> u8
-    requires { Sized n g r × (i ≤ most_plans) × KeptTables (earlier_columns n book.now i) a.old factors.old sums.old }
-    ensures { EntryChecks n g r book.now i result
-        × (result ≡ 0 → KeptTables (columns_in n book.now i) a.new factors.new sums.new) }
+    tables: &mut SearchTables,
+) -> Result<(), Refusal>
+    requires { Sized n g r × (i ≤ most_plans) × KeptIn (earlier_columns n book.now i) tables.old }
+    ensures { EntryChecks n g r book.now i (refusal_of result) × (refusal_of result ≡ 0 → KeptIn (columns_in n book.now i) tables.new) }
 {
-    let number = columns_number(n, g, r, book, i, a, factors, sums);
-    if number != 0 {
-        return number;
-    }
-    pattern_number(n, g, book, i)
+    check_columns(n, g, r, book, i, tables)?;
+    check_pattern(n, g, book, i)
 }
 
-// The number of the entries, of which there are so many, and of what is left over.
-fn entries_number(n: usize, g: usize, r: usize, count: usize, book: &[u8]) -> u8
+// Refused if one of the entries is, of which there are so many, or if bytes are left over.
+fn check_entries(n: usize, g: usize, r: usize, count: usize, book: &[u8]) -> Result<(), Refusal>
     requires { Sized n g r × (count ≤ most_plans) }
-    ensures { EntriesChecks n g r book.now 0 count result }
+    ensures { EntriesChecks n g r book.now 0 count (refusal_of result) }
 {
-    let mut a = [0u8; NUMBERS];
-    let mut factors = [0u16; NUMBERS];
-    let mut sums = [0u16; NUMBERS];
-    let mut i: usize = 0;
-    while i < count {
-        let number = entry_number(n, g, r, book, i, &mut a, &mut factors, &mut sums);
-        if number != 0 {
-            return number;
-        }
-        i += 1;
+    let mut tables = SearchTables::none();
+    for i in 0..count {
+        check_entry(n, g, r, book, i, &mut tables)?;
     }
     if book_length(n, count) < book.len() {
-        return 10;
+        return Err(Refusal::Length);
     }
-    0
-}
-
-// The answer of a refusal.
-fn refused(number: u8) -> ReadAnswer
-    ensures { result ≡ refused_book number }
-{
-    ReadAnswer {
-        number,
-        factors: 0,
-        generators: 0,
-        resolution: 0,
-        count: 0,
-    }
+    Ok(())
 }
 
 // What the header's bytes say.
-fn header_of(book: &[u8]) -> ReadAnswer
+fn header_of(book: &[u8]) -> BookSize
     requires { header_length ≤ length book.now }
-    ensures { HeaderRead book.now result }
+    ensures { HeaderRead book.now (read_answer (Ok result)) }
 {
-    let factors = book[1];
-    let generators = book[2];
-    let resolution = book[3];
-    let low = as_index(book[4]);
-    let high = as_index(book[5]);
-    let count = low + BYTE_VALUES as usize * high;
-    ReadAnswer {
-        number: 0,
-        factors,
-        generators,
-        resolution,
-        count,
+    let low = usize::from(book[4]);
+    let high = usize::from(book[5]);
+    BookSize {
+        factors: book[1],
+        generators: book[2],
+        resolution: book[3],
+        count: low + usize::from(BYTE_VALUES) * high,
     }
 }
 
 // What the header says, or its refusal.
-fn open(book: &[u8]) -> ReadAnswer
-    ensures { Answered (HeaderChecks book.now) book.now result }
+fn open(book: &[u8]) -> Result<BookSize, Refusal>
+    ensures { Answered (HeaderChecks book.now) book.now (read_answer result) }
 {
-    let number = record_number(HEADER_KIND, HEADER_LENGTH, book, 0);
-    if number != 0 {
-        return refused(number);
-    }
+    check_record(HEADER_KIND, HEADER_LENGTH, book, 0)?;
     let header = header_of(book);
-    let n = as_index(header.factors);
-    let g = as_index(header.generators);
-    let r = as_index(header.resolution);
-    let bounds = bounds_number(n, g, r);
-    if bounds != 0 {
-        return refused(bounds);
-    }
-    header
+    let n = usize::from(header.factors);
+    let g = usize::from(header.generators);
+    let r = usize::from(header.resolution);
+    check_bounds(n, g, r)?;
+    Ok(header)
 }
 
 // The answer for a book whose header says so, where there is room for the entries or not.
-fn judged(book: &[u8], header: ReadAnswer, room: bool) -> ReadAnswer
-    requires { Answered (HeaderChecks book.now) book.now header }
-    ensures { Judged book.now header room result }
+fn judged(book: &[u8], header: BookSize, room: bool) -> Result<BookSize, Refusal>
+    requires { Answered (HeaderChecks book.now) book.now (read_answer (Ok header)) }
+    ensures { Judged book.now (read_answer (Ok header)) room (read_answer result) }
 {
-    if header.number != 0 {
-        return header;
-    }
     if !room {
-        return refused(8);
+        return Err(Refusal::Places);
     }
-    let n = as_index(header.factors);
-    let g = as_index(header.generators);
-    let r = as_index(header.resolution);
-    let number = entries_number(n, g, r, header.count, book);
-    if number != 0 {
-        return refused(number);
-    }
-    header
+    let n = usize::from(header.factors);
+    let g = usize::from(header.generators);
+    let r = usize::from(header.resolution);
+    check_entries(n, g, r, header.count, book)?;
+    Ok(header)
 }
 
 // The answer for a list of so many bytes.
-fn reading_plans(book: &[u8], places: usize) -> ReadAnswer
-    ensures { Answered (Reading plan_start places book.now) book.now result }
+fn reading_plans(book: &[u8], places: usize) -> Result<BookSize, Refusal>
+    ensures { Answered (Reading plan_start places book.now) book.now (read_answer result) }
 {
-    let header = open(book);
-    let room = plan_start(as_index(header.factors), header.count) <= places;
+    let header = open(book)?;
+    let room = plan_start(usize::from(header.factors), header.count) <= places;
     judged(book, header, room)
 }
 
 // The answer for a list of so many design records.
-fn reading_designs(book: &[u8], places: usize) -> ReadAnswer
-    ensures { Answered (Reading places_of places book.now) book.now result }
+fn reading_designs(book: &[u8], places: usize) -> Result<BookSize, Refusal>
+    ensures { Answered (Reading places_of places book.now) book.now (read_answer result) }
 {
-    let header = open(book);
+    let header = open(book)?;
     let room = header.count <= places;
     judged(book, header, room)
 }
 
 // The record of entry i.
-fn design_in(header: ReadAnswer, book: &[u8], i: usize) -> Design
-    requires { ((places : ℕ) × Answered (Reading places_of places book.now) book.now header) × (i < header.count) }
-    ensures { DesignIn header book.now i result }
+fn design_in(header: BookSize, book: &[u8], i: usize) -> Design
+    requires { ((places : ℕ) × Answered (Reading places_of places book.now) book.now (read_answer (Ok header))) × (i < header.count) }
+    ensures { DesignIn (read_answer (Ok header)) book.now i result }
 {
-    let n = as_index(header.factors);
-    let g = as_index(header.generators);
+    let n = usize::from(header.factors);
+    let g = usize::from(header.generators);
     plan_layout::design(n, n - g, array_of(columns_in(n, book, i)))
 }
 
 // Reads a book into a lent list of bytes, entry i as plan i.
-pub fn list_book(book: &[u8], out: &mut [u8]) -> ReadAnswer
-    ensures { ReadsPlans book.now out.old out.new result }
+pub fn list_book(book: &[u8], out: &mut [u8]) -> Result<BookSize, Refusal>
+    ensures { ReadsPlans book.now out.old out.new (read_answer result) }
 {
-    let answer = reading_plans(book, out.len());
-    let n = as_index(answer.factors);
-    let mut i: usize = 0;
-    while i < answer.count {
+    let header = reading_plans(book, out.len())?;
+    let n = usize::from(header.factors);
+    for i in 0..header.count {
         let columns = array_of(columns_in(n, book, i));
         put_plan(n, columns, 0, i, out);
-        i += 1;
     }
-    answer
+    Ok(header)
 }
 
 // Reads a book into a lent list of design records.
-pub fn read_book(book: &[u8], list: &mut [Design]) -> ReadAnswer
-    ensures { ReadsDesigns book.now list.old list.new result }
+pub fn read_book(book: &[u8], list: &mut [Design]) -> Result<BookSize, Refusal>
+    ensures { ReadsDesigns book.now list.old list.new (read_answer result) }
 {
-    let answer = reading_designs(book, list.len());
-    let mut i: usize = 0;
-    while i < answer.count {
-        list[i] = design_in(answer, book, i);
-        i += 1;
+    let header = reading_designs(book, list.len())?;
+    for i in 0..header.count {
+        list[i] = design_in(header, book, i);
     }
-    answer
+    Ok(header)
 }

@@ -2,14 +2,13 @@
 // call: which one, N, G, a number more, and the numbers of its lists, a space between. What it answers is printed in a line.
 #![tactic(auto)]
 
-ghost use Rattle.std.specs.Prelude.{◌≤◌, length};
+ghost use Rattle.std.specs.Prelude.{◌≤◌, length, MatchOption};
 ghost use Rattle.io.specs.Counts.{IsPrefixLen};
+ghost use Rattle.regular.specs.Answers.{refusal_of};
 
-use bits::wide;
-use regular::{
-    Compared, Design, DesignAnswer, FACTORS, LoadAnswer, ResolutionAnswer, RunsAnswer, SignsAnswer,
-    SmallestAnswer,
-};
+use admission::{Bytes, RunList, Words};
+use plan_layout::blank_design;
+use regular::{Design, FACTORS, Load, RUNS, Refusal, UnplacedForm, Verdict};
 
 // Standard input and standard output, as the system numbers them.
 const STDIN: i32 = 0;
@@ -39,8 +38,7 @@ fn read_byte() -> u8 {
 // A number of up to five digits.
 fn read_number() -> Numeral {
     let mut value: u32 = 0;
-    let mut digits: u8 = 0;
-    while digits < 5 {
+    for _ in 0..5 {
         let b = read_byte();
         if b < b'0' {
             return Numeral {
@@ -48,13 +46,11 @@ fn read_number() -> Numeral {
                 end: b,
             };
         }
-        value = value % 10000 * 10 + (b - b'0') as u32;
-        digits += 1;
+        value = value % 10000 * 10 + u32::from(b - b'0');
     }
-    let end = read_byte();
     Numeral {
         value: (value % 65536) as u16,
-        end,
+        end: read_byte(),
     }
 }
 
@@ -62,24 +58,19 @@ fn read_number() -> Numeral {
 fn read_line(line: &mut [u16]) -> usize
     ensures { IsPrefixLen result line.new }
 {
-    let mut count: usize = 0;
-    while count < line.len() {
+    for (i, place) in line.iter_mut().enumerate() {
         let number = read_number();
-        line[count] = number.value;
-        count += 1;
+        *place = number.value;
         if number.end == b'\n' {
-            return count;
+            return i + 1;
         }
     }
-    count
+    line.len()
 }
 
 // The number at place p of a list, 0 past its end.
 fn number_at(list: &[u16], p: usize) -> u16 {
-    if list.len() <= p {
-        return 0;
-    }
-    list[p]
+    list.get(p).copied().unwrap_or(0)
 }
 
 // .. as a byte.
@@ -91,10 +82,8 @@ fn byte_at(list: &[u16], p: usize) -> u8 {
 fn copy_bytes(list: &[u16], p: usize, bytes: &mut [u8])
     requires { (p ≤ 512) × (length bytes.old ≤ 20) }
 {
-    let mut i: usize = 0;
-    while i < bytes.len() {
-        bytes[i] = byte_at(list, p + i);
-        i += 1;
+    for (i, byte) in bytes.iter_mut().enumerate() {
+        *byte = byte_at(list, p + i);
     }
 }
 
@@ -104,10 +93,12 @@ fn design_at(list: &[u16], p: usize) -> Design
 {
     let mut columns = [0u8; FACTORS];
     copy_bytes(list, p + 2, &mut columns);
-    let factors = bits::as_index(byte_at(list, p));
-    let basics = bits::as_index(byte_at(list, p + 1));
-    let mask = number_at(list, p + RECORD - 1);
-    plan_layout::design_with(factors, basics, columns, mask)
+    Design {
+        factors: byte_at(list, p),
+        basics: byte_at(list, p + 1),
+        columns,
+        mask: number_at(list, p + RECORD - 1),
+    }
 }
 
 // A number after a space.
@@ -117,102 +108,95 @@ fn print_next(x: u64) {
 }
 
 // A number after its name.
-fn print_number(name: &[u8], x: u64) {
+fn print_number<T: Copy + Into<u64>>(name: &[u8], x: T) {
     io::write_all(STDOUT, name);
-    print_next(x);
+    print_next(x.into());
 }
 
 // Numbers after their name.
-fn print_numbers(name: &[u8], list: &[u16]) {
+fn print_numbers<T: Copy + Into<u64>>(name: &[u8], list: &[T]) {
     io::write_all(STDOUT, name);
-    let mut i: usize = 0;
-    while i < list.len() {
-        print_next(list[i] as u64);
-        i += 1;
+    for x in list {
+        print_next((*x).into());
     }
-}
-
-fn print_bytes(name: &[u8], list: &[u8]) {
-    io::write_all(STDOUT, name);
-    let mut i: usize = 0;
-    while i < list.len() {
-        print_next(list[i] as u64);
-        i += 1;
-    }
-}
-
-// Lists that were lent.
-fn print_lent_numbers(list: [u16; LENT]) {
-    print_numbers(b" list", &list);
-}
-
-fn print_lent_bytes(list: [u8; LENT]) {
-    print_bytes(b" list", &list);
 }
 
 fn print_design(d: Design) {
-    print_number(b" factors", d.factors as u64);
-    print_number(b" basics", d.basics as u64);
-    let columns = d.columns;
-    print_bytes(b" columns", &columns);
-    print_number(b" mask", d.mask as u64);
+    print_number(b" factors", d.factors);
+    print_number(b" basics", d.basics);
+    print_numbers(b" columns", &d.columns);
+    print_number(b" mask", d.mask);
 }
 
-fn print_design_answer(answer: DesignAnswer) {
-    print_number(b" number", answer.number as u64);
-    let design = answer.design;
-    print_design(design);
+// The number of a refusal, 0 if there is none.
+fn print_refusal<T: Copy>(answer: Result<T, Refusal>) {
+    let number = match answer {
+        Ok(_) => 0,
+        Err(e) => e.number(),
+    };
+    print_number(b" number", number);
 }
 
-fn print_runs(answer: RunsAnswer) {
-    print_number(b" number", answer.number as u64);
-    let runs = answer.runs;
-    print_numbers(b" runs", &runs);
+fn print_design_answer(answer: Result<Design, Refusal>) {
+    print_refusal(answer);
+    print_design(answer.unwrap_or(blank_design()));
 }
 
-fn print_signs(answer: SignsAnswer) {
-    print_number(b" number", answer.number as u64);
-    print_number(b" signs", answer.signs as u64);
+fn print_runs(answer: Result<[u16; RUNS], Refusal>) {
+    print_refusal(answer);
+    print_numbers(b" runs", &answer.unwrap_or([0; RUNS]));
 }
 
-fn print_resolution(answer: ResolutionAnswer) {
-    print_number(b" number", answer.number as u64);
-    print_number(b" resolution", answer.resolution as u64);
+// A number after its name, `blank` if the call is refused.
+fn print_value<T: Copy + Into<u64>>(name: &[u8], answer: Result<T, Refusal>, blank: T) {
+    print_refusal(answer);
+    print_number(name, answer.unwrap_or(blank));
 }
 
-// The switches of the witness, and the smallest form.
-fn print_smallest(answer: SmallestAnswer) {
-    print_number(b" number", answer.number as u64);
-    print_number(b" switches", answer.mask as u64);
-    print_number(b" place", answer.place as u64);
-    let design = answer.design;
-    print_design(design);
+fn print_resolution(answer: Result<u8, Refusal>) {
+    print_value(b" resolution", answer, 0);
+}
+
+// The switches of the witness, and the smallest form, which is looked for in no list.
+fn print_smallest(answer: Result<UnplacedForm, Refusal>) {
+    print_refusal(answer);
+    let form = answer.unwrap_or(UnplacedForm {
+        mask: 0,
+        design: blank_design(),
+    });
+    print_number(b" switches", form.mask);
+    print_number(b" place", 0u8);
+    print_design(form.design);
 }
 
 // The state for the next load, and the load.
-fn print_load(answer: LoadAnswer) {
-    print_number(b" number", answer.number as u64);
-    print_number(b" state", answer.state as u64);
-    let design = answer.design;
-    print_design(design);
+fn print_load(seed: u32, answer: Result<Load, Refusal>) {
+    print_refusal(answer);
+    let load = answer.unwrap_or(Load {
+        state: seed,
+        design: blank_design(),
+    });
+    print_number(b" state", load.state);
+    print_design(load.design);
 }
 
-fn print_compared(answer: Compared) {
+fn print_compared(answer: Result<Verdict, Refusal>) {
     match answer {
-        Compared::Same(mask) => print_number(b" same", mask as u64),
-        Compared::Different(length) => print_number(b" different", length as u64),
-        Compared::Refused(number) => print_number(b" refused", number as u64),
+        Ok(Verdict::Same(mask)) => print_number(b" same", mask),
+        Ok(Verdict::Different(length)) => print_number(b" different", length),
+        Err(e) => print_number(b" refused", e.number()),
     }
 }
 
 // The calls on a list of words with signs, or of runs.
 fn call_on_list(call: usize, n: usize, g: usize, signs: u16, list: &[u16]) {
+    let words = Words { list, signs };
     match call {
-        1 => print_design_answer(forms::design_of_words(n, g, list, signs)),
-        2 => print_design_answer(forms::design_of_runs(n, g, list)),
-        3 => print_runs(forms::runs_of_words(n, g, list, signs)),
-        4 => print_resolution(measures::resolution_of_words(n, g, list, signs)),
-        _ => print_resolution(measures::resolution_of_runs(n, g, list)),
+        1 => print_design_answer(forms::design_of(n, g, words)),
+        2 => print_design_answer(forms::design_of(n, g, RunList(list))),
+        3 => print_runs(forms::runs_of_words(n, g, words)),
+        4 => print_resolution(measures::resolution_of(n, g, words)),
+        _ => print_resolution(measures::resolution_of(n, g, RunList(list))),
     }
 }
 
@@ -224,7 +208,7 @@ fn resolution_of_columns(n: usize, g: usize, list: &[u16]) {
     if LENT < count {
         return;
     }
-    print_resolution(measures::resolution_of_columns(n, g, &plan[..count]));
+    print_resolution(measures::resolution_of(n, g, Bytes(&plan[..count])));
 }
 
 // Whether columns are an entry of the catalogue of n, g and r: 1 if so, else 0.
@@ -236,14 +220,15 @@ fn is_entry(n: usize, g: usize, r: usize, list: &[u16]) {
         return;
     }
     let entry = entry_test::is_entry(n, g, r, &columns[..count]);
-    print_number(b" entry", entry as u64);
+    print_number(b" entry", entry);
 }
 
 // The load of a seed, whose low and high 16 bits are the first two numbers of the list.
 fn load(n: usize, g: usize, list: &[u16]) {
-    let low = number_at(list, 0) as u32;
-    let high = number_at(list, 1) as u32;
-    print_load(loads::load(n, g, (high << 16) | low));
+    let low = u32::from(number_at(list, 0));
+    let high = u32::from(number_at(list, 1));
+    let seed = (high << 16) | low;
+    print_load(seed, loads::load(n, g, seed));
 }
 
 // Of two lists of words, the first of them the first k numbers.
@@ -258,11 +243,10 @@ fn less_aberration(n: usize, g: usize, k: usize, list: &[u16]) {
 // The calls on a record that fill a lent list: of words, whose signs are printed, or of counts.
 fn fill_numbers(call: usize, n: usize, g: usize, d: Design, out: &mut [u16]) {
     if call == 9 {
-        print_signs(forms::words_of_design(n, g, d, out));
+        print_value(b" signs", forms::words_of(n, g, d, out), 0);
         return;
     }
-    let number = measures::distances_of_design(n, g, d, out);
-    print_number(b" number", number as u64);
+    print_refusal(measures::distances_of(n, g, d, out));
 }
 
 // The same with k places lent; what it answers, and the whole list after it.
@@ -272,21 +256,38 @@ fn call_for_numbers(call: usize, n: usize, g: usize, k: usize, d: Design) {
         return;
     }
     fill_numbers(call, n, g, d, &mut out[..k]);
-    print_lent_numbers(out);
+    print_numbers(b" list", &out);
+}
+
+// A call's refusal by its number, if it is one that the other arguments of a smallest form can have.
+fn refusal_of(number: u8) -> Option<Result<(), Refusal>>
+    ensures { MatchOption result (Unit {0}) (λ r. refusal_of r ≤ 8) }
+{
+    let refusal = match number {
+        0 => return Some(Ok(())),
+        1 => Refusal::Factors,
+        2 => Refusal::Generators,
+        3 => Refusal::Resolution,
+        4 => Refusal::Count,
+        5 => Refusal::Range,
+        6 => Refusal::Rank,
+        7 => Refusal::ShortWord,
+        8 => Refusal::Places,
+        _ => return None,
+    };
+    Some(Err(refusal))
 }
 
 // The calls on records that fill a lent list of names. The smallest form is asked for where the other arguments' number is 8 at most.
 fn fill_names(call: usize, n: usize, g: usize, list: &[u16], names: &mut [u8]) {
     let d = design_at(list, 0);
     if call == 11 {
-        print_compared(comparison::compare_designs(n, g, d, design_at(list, RECORD), names));
+        print_compared(comparison::compare(n, g, d, design_at(list, RECORD), names));
         return;
     }
-    let other = byte_at(list, RECORD);
-    if 8 < other {
-        return;
+    if let Some(other) = refusal_of(byte_at(list, RECORD)) {
+        print_smallest(smallest_of_plan::form_of(n, g, d, other, names));
     }
-    print_smallest(smallest_of_plan::form_of_design(n, g, d, other, names));
 }
 
 // The same with k places lent; what it answers, and the whole list after it.
@@ -296,20 +297,20 @@ fn call_for_names(call: usize, n: usize, g: usize, k: usize, list: &[u16]) {
         return;
     }
     fill_names(call, n, g, list, &mut names[..k]);
-    print_lent_bytes(names);
+    print_numbers(b" list", &names);
 }
 
-// The call of a line, and its answer in a line.
+// The call of a line, and its answer in a line. Which call it is comes from the input.
 fn answer(line: &[u16])
     requires { 4 ≤ length line.now }
 {
-    let call = wide(line[0]);
-    let n = wide(line[1]);
-    let g = wide(line[2]);
+    let call = usize::from(line[0]);
+    let n = usize::from(line[1]);
+    let g = usize::from(line[2]);
     let signs = line[3];
-    let k = wide(signs);
+    let k = usize::from(signs);
     let list = &line[4..];
-    io::print_decimal(STDOUT, call as u64);
+    io::print_decimal(STDOUT, u64::from(line[0]));
     match call {
         1..=5 => call_on_list(call, n, g, signs, list),
         6 => resolution_of_columns(n, g, list),
@@ -324,14 +325,12 @@ fn answer(line: &[u16])
 }
 
 fn main() {
-    let mut left: u64 = 18446744073709551615;
-    while 0 < left {
+    for _ in 0..u64::MAX {
         let mut line = [0u16; 512];
         let count = read_line(&mut line);
         if count < 4 {
             return;
         }
         answer(&line[..count]);
-        left -= 1;
     }
 }

@@ -7,7 +7,7 @@ use Rattle.regular.specs.Designs.{Holds, blank}
 use Rattle.regular.specs.PlanBytes.{plan_bytes, mask_in}
 use Rattle.regular.specs.Refusals.{SizeFault, LentFault, either, Lowest, Fills}
 use Rattle.regular.specs.Smallest.{Equal}
-use Rattle.regular.specs.declared.LoadAnswer.{LoadAnswer}
+use Rattle.regular.specs.Answers.{LoadAnswer}
 use Rattle.regular.specs.declared.StateAnswer.{StateAnswer}
 
 -- the state after k draws: it starts at the seed, and each draw adds 2654435769 to it, dropping the carry beyond 32 bits

@@ -10,6 +10,9 @@ use Rattle.regular.specs.Runs.{Runs}
 use Rattle.regular.specs.Columns.{plan_of}
 use Rattle.regular.specs.PlanBytes.{plan_bytes, mask_in}
 use Rattle.regular.specs.declared.Design.{Design}
+use Rattle.regular.specs.declared.Refusal.{Refusal}
+use Rattle.regular.specs.declared.Refusal.TheVariants as refusals
+use Rattle.regular.specs.Answers.{number}
 
 pub lowest_unique : (F : ℕ → Type 0) (a b : ℕ) → Lowest F a → Lowest F b → a ≡ b
 lowest_unique F zero zero p q = refl
@@ -174,3 +177,18 @@ pub bare_faults_most : (n g : ℕ) (c : List ℕ) (k : ℕ) → bare_faults n g 
 bare_faults_most n g c =
     either_most (SizeFault n g) (either (ListFault n c) (ColumnsFault n (n - g) c)) 7 (λ k f. omega (arith, size_most n g k f))
     (either_most (ListFault n c) (ColumnsFault n (n - g) c) 7 (λ k f. omega (arith, list_is n c k f)) (columns_most n (n - g) c))
+
+-- a refusal's number is above 0
+pub number_positive : (e : Refusal) → 0 < number e
+number_positive refusals.Factors = omega arith
+number_positive refusals.Generators = omega arith
+number_positive refusals.Resolution = omega arith
+number_positive refusals.Count = omega arith
+number_positive refusals.Range = omega arith
+number_positive refusals.Rank = omega arith
+number_positive refusals.ShortWord = omega arith
+number_positive refusals.Places = omega arith
+number_positive refusals.Entries = omega arith
+number_positive refusals.Length = omega arith
+number_positive refusals.Kind = omega arith
+number_positive refusals.Untrue = omega arith

@@ -15,11 +15,8 @@ fn signs_at_a(words: &[u16], signs: u16) -> [u16; FACTORS]
     ensures { SignedAtA (length words.now) words.now signs result }
 {
     let mut signed = [0u16; FACTORS];
-    let mut i: usize = 0;
-    while i < words.len() {
-        let w = words[i];
+    for (i, &w) in words.iter().enumerate() {
         signed[i] = w ^ bits::level(w, 0) ^ bits::level(signs, i);
-        i += 1;
     }
     signed
 }
@@ -34,8 +31,7 @@ pub fn mask_of_signs(n: usize, words: &[u16], signs: u16) -> u16
         return 0;
     }
     let signed = signs_at_a(words, signs);
-    let found = word_forms::words_columns(n, &signed[..words.len()]);
-    let solved = found.columns;
+    let solved = word_forms::words_columns(n, &signed[..words.len()]).unwrap();
     column_forms::unit_run(n, 0, solved) ^ 1
 }
 
@@ -45,10 +41,8 @@ pub fn signs_of(g: usize, words: [u16; FACTORS], mask: u16) -> u16
     ensures { result ≡ run_of words g mask }
 {
     let mut signs: u16 = 0;
-    let mut i: usize = 0;
-    while i < g {
-        signs = signs | (bits::parity(mask, words[i]) << i);
-        i += 1;
+    for i in 0..g {
+        signs |= bits::parity(mask, words[i]) << i;
     }
     signs
 }

@@ -1,5 +1,5 @@
 -- Reading a line that gives a size: a digit, a number of one or two digits, and the three numbers of a size.
-use mathlib.Core.Path.{◌≡◌, refl, sym, ap, subst}
+use mathlib.Core.Path.{◌≡◌, refl, sym, subst}
 use mathlib.Core.Bool.{Bool, true, false}
 use mathlib.Core.List.{List, [], ◌∷◌}
 use Prim.Native.Nat.{ℕ, zero, suc, ◌+◌, ◌*◌, ◌≤◌, ◌<◌}
@@ -8,7 +8,6 @@ use lib.ListN.{length, get_or}
 use native.Mathlib.Omega.{arith}
 use Rattle.gf2.specs.Truth.{clash}
 use Rattle.size_lines.specs.Lines.{Digit, Number, one, two, SizeLine, DigitIs, SpaceIs, NumberPart, Parsed}
-use Rattle.size_lines.specs.declared.LineSize.{LineSize}
 
 past : (l : List ℕ) (p : ℕ) → length l ≤ p → get_or l p 0 ≡ 0
 past [] p h = refl
@@ -110,14 +109,6 @@ at_3 {l = l} {z = z} P s h =
 -- a line without a size
 abbrev None : List ℕ → Type 0
 None l = (x y z : ℕ) → SizeLine l x y z → ⊥
-
-pub refuse : (l : List ℕ) (s : LineSize) → s ≡ record { ok = false; n = 0; g = 0; r = 0 } → None l → Parsed l s.ok s.n s.g s.r
-refuse l s h none =
-    record {
-      size = λ t. absurd (clash t (ap (λ (x : LineSize). x.ok) h));
-      none = λ _. none;
-      zeros = λ _. (ap (λ (x : LineSize). x.n) h, ap (λ (x : LineSize). x.g) h, ap (λ (x : LineSize). x.r) h);
-    }
 
 -- where the reader stops
 pub no_1 : (l : List ℕ) (v e : ℕ) → NumberPart l 0 v e → e ≡ 0 → None l

@@ -1,10 +1,10 @@
 // The size that a line gives: three numbers of one or two digits, a space between.
 #![tactic(auto)]
 
-ghost use Rattle.std.specs.Prelude.{◌≡◌, false, ◌≤◌};
+ghost use Rattle.std.specs.Prelude.{◌≡◌, ◌+◌, ◌<◌, ◌≤◌, IfSome};
+ghost use Rattle.std.specs.Option.{is_some, unwrap_or};
 ghost use Rattle.size_lines.specs.Lines.{DigitIs, SpaceIs, NumberPart, Parsed};
-
-use bits::as_index;
+ghost use Rattle.size_lines.specs.Found.{no_size, no_number};
 
 // A number of one or two digits, and the place after it.
 #[derive(Clone, Copy)]
@@ -13,111 +13,70 @@ struct Numeral {
     end: usize,
 }
 
-// What a line says: a size, or none; all 0 if none.
-#[derive(Clone, Copy)]
+// A size as a line gives it.
+#[derive(Clone, Copy, PartialEq, Eq)]
 pub struct LineSize {
-    pub ok: bool,
     pub n: usize,
     pub g: usize,
     pub r: usize,
 }
 
-// The digit at place p, 10 if none stands there.
-fn digit(line: &[u8], p: usize) -> usize
-    ensures { DigitIs line.now p result }
+// The digit at place p, if one stands there.
+fn digit(line: &[u8], p: usize) -> Option<usize>
+    ensures is { DigitIs line.now p (unwrap_or result 10) }
+    ensures some { IfSome result (λ d. d < 10) }
 {
-    if line.len() <= p {
-        return 10;
+    match line.get(p).copied() {
+        Some(b @ b'0'..=b'9') => Some(usize::from(b - b'0')),
+        _ => None,
     }
-    let x = as_index(line[p]);
-    if x < 48 {
-        return 10;
-    }
-    if 57 < x {
-        return 10;
-    }
-    x - 48
 }
 
-// Whether a space stands at place p.
-fn space(line: &[u8], p: usize) -> bool
-    ensures { SpaceIs line.now p result }
+// The place after a space, if one stands at place p.
+fn space(line: &[u8], p: usize) -> Option<usize>
+    ensures is { SpaceIs line.now p (is_some result) }
+    ensures next { IfSome result (λ q. q ≡ p + 1) }
 {
-    if line.len() <= p {
-        return false;
+    match line.get(p).copied() {
+        Some(b' ') => Some(p + 1),
+        _ => None,
     }
-    if line[p] == 32 {
-        return true;
-    }
-    false
 }
 
-// The number from place p on, of two digits where two stand there; it ends at p if there is none.
-fn number(line: &[u8], p: usize) -> Numeral
+// The number from place p on, if there is one: of two digits where two stand there.
+fn number(line: &[u8], p: usize) -> Option<Numeral>
     requires { p ≤ 6 }
-    ensures { NumberPart line.now p result.value result.end }
+    ensures part { NumberPart line.now p (unwrap_or result (no_number p)).value (unwrap_or result (no_number p)).end }
+    ensures some { IfSome result (λ x. p < x.end) }
 {
-    let d = digit(line, p);
-    if 9 < d {
-        return Numeral { value: 0, end: p };
-    }
-    let e = digit(line, p + 1);
-    if 9 < e {
-        return Numeral {
+    let d = digit(line, p)?;
+    match digit(line, p + 1) {
+        Some(e) => Some(Numeral {
+            value: 10 * d + e,
+            end: p + 2,
+        }),
+        None => Some(Numeral {
             value: d,
             end: p + 1,
-        };
-    }
-    Numeral {
-        value: 10 * d + e,
-        end: p + 2,
+        }),
     }
 }
 
-// No size.
-fn none() -> LineSize
-    ensures { result ≡ record { ok = false; n = 0; g = 0; r = 0 } }
+// The size that a line gives, if it gives one.
+pub fn parse(line: &[u8]) -> Option<LineSize>
+    ensures { Parsed line.now (is_some result) (unwrap_or result no_size).n (unwrap_or result no_size).g (unwrap_or result no_size).r }
 {
-    LineSize {
-        ok: false,
-        n: 0,
-        g: 0,
-        r: 0,
+    let a = number(line, 0)?;
+    let i = space(line, a.end)?;
+    let b = number(line, i)?;
+    let j = space(line, b.end)?;
+    let c = number(line, j)?;
+    if c.end != line.len() {
+        return None;
     }
-}
-
-// The size that a line gives.
-pub fn parse(line: &[u8]) -> LineSize
-    ensures { Parsed line.now result.ok result.n result.g result.r }
-{
-    let a = number(line, 0);
-    let i = a.end;
-    if i == 0 {
-        return none();
-    }
-    if !space(line, i) {
-        return none();
-    }
-    let b = number(line, i + 1);
-    let j = b.end;
-    if j == i + 1 {
-        return none();
-    }
-    if !space(line, j) {
-        return none();
-    }
-    let c = number(line, j + 1);
-    let k = c.end;
-    if k == j + 1 {
-        return none();
-    }
-    if k != line.len() {
-        return none();
-    }
-    LineSize {
-        ok: true,
+    Some(LineSize {
         n: a.value,
         g: b.value,
         r: c.value,
-    }
+    })
 }

@@ -1,9 +1,9 @@
 -- The smallest form's place in a list of records or of plans one after another, and that this is what the calls promise.
-use Rattle.std.specs.Prelude.{ℕ, ◌-◌, ◌≤◌, ◌<◌, false, ◌≡◌, refl, List, length, drop}
-use Rattle.std.proofs.Common.{sym, subst, ◌∙◌}
+use Rattle.std.specs.Prelude.{ℕ, ◌-◌, ◌≤◌, ◌<◌, false, ◌≡◌, refl, List, length, drop, Result, Ok, Err, IsOk}
+use Rattle.std.proofs.Common.{sym, subst, ◌∙◌, arith}
 use Rattle.regular.specs.Columns.{plan_of}
 use Rattle.regular.specs.Refusals.{LentFault, either, numbered, Lowest}
-use Rattle.regular.specs.RefusalLaws.{lowest_unique, lowest_numbered, lowest_then, lent_fits}
+use Rattle.regular.specs.RefusalLaws.{lowest_unique, lowest_numbered, lowest_then, lent_fits, number_positive}
 use Rattle.regular.specs.Given.{Given}
 use Rattle.regular.specs.GivenLaws.{same_lowest_refl, same_lowest_either, lowest_same_lowest, lowest_moved, lowest_left, lowest_right}
 use Rattle.regular.specs.PlanBytes.{plan_bytes, mask_in}
@@ -11,12 +11,16 @@ use Rattle.regular.specs.PlanLists.{records_faults, wanted_plans_faults}
 use Rattle.regular.specs.Smallest.{Equal}
 use Rattle.regular.specs.SmallestAnswers.{FirstPlace, DesignPlace, ColumnsPlace, Formed, ReducesAmong, ReducesInto, into_faults}
 use Rattle.regular.specs.declared.Design.{Design}
-use Rattle.regular.specs.declared.SmallestAnswer.{SmallestAnswer}
+use Rattle.regular.specs.Answers.{SmallestAnswer, unplaced_answer, smallest_answer, form_answer}
+use Rattle.regular.specs.declared.Refusal.{Refusal}
 use Rattle.regular.specs.declared.FormAnswer.{FormAnswer}
+use Rattle.regular.specs.declared.UnplacedForm.{UnplacedForm}
 use Rattle.isomorphism_laws.specs.Moving.{moved_names, carries_names}
 use Rattle.isomorphism_laws.specs.SamePlan.{carries_agree}
 use Rattle.smallest_laws.specs.Growth.{smallest_equal, plan_equal}
 use Rattle.lent.specs.Lends.{Lends}
+use Rattle.plan_layout.specs.Put.{PlanPut}
+use Rattle.plan_layout.proofs.Pasted.{first_put}
 use Rattle.lent.specs.Lending.{Lending}
 use Rattle.smallest_of_plan.specs.Reducing.{ReducesBeside, besides}
 use Rattle.smallest_calls.specs.Others.{others, others_lowest}
@@ -42,6 +46,11 @@ pub record LentPlan (n : ℕ) (c out filled : List ℕ) : Type 0 where
 pub lent_plan : {n : ℕ} {c out filled : List ℕ} {r : ℕ} → plan_bytes n ≤ length out
     → Lends 0 (plan_bytes n) (λ zs. Equal n zs c × (mask_in n zs ≡ 0)) out filled r → LentPlan n c out filled
 lent_plan h l = let f = l.filled refl h in record { columns = f.1.0.0; unswitched = f.1.0.1; past = f.1.1; size = l.size }
+
+pub put_lent : {n : ℕ} {c out filled : List ℕ} → plan_bytes n ≤ length out → PlanPut n c 0 0 out filled → LentPlan n c out filled
+put_lent {n} {c} {out} {filled} h p =
+    let f = first_put n c 0 out filled h p in
+    record { columns = f.0.0; unswitched = f.0.1; past = f.1; size = p.size }
 
 -- the form's columns go into a lent list
 pub record PlacedInto (n : ℕ) (list : List ℕ) (form : SmallestAnswer) (out filled : List ℕ) (r : FormAnswer) : Type 0 where
@@ -84,6 +93,10 @@ formed_accepted {n} {g} {p} {ys} {zs} {form} f low h =
     lowest_unique (besides n p 0 ys) form.number 0 f.made.number
     (lowest_then (either p.faults (numbered 0)) (LentFault n ys) 0 (lowest_then p.faults (numbered 0) 0 low (lowest_numbered 0)) (lent_fits n ys h))
 
+pub formed_ok : (r : Result UnplacedForm Refusal) → (unplaced_answer r).number ≡ 0 → IsOk r
+formed_ok (Ok f) e = refl
+formed_ok (Err x) e = absurd (omega (arith, e, number_positive x))
+
 -- in a list of records
 pub formed_among : {n g : ℕ} {p : Given} {other : ℕ} {ys zs : List ℕ} {form : SmallestAnswer} (list : List Design)
     → Lowest (records_faults n g list) other → ReducesBeside n g p other ys zs form → (place : ℕ) (r : SmallestAnswer) → DesignPlace list form.design place
@@ -102,6 +115,30 @@ formed_among {n} {g} {p} {other} {ys} {zs} {form} list low f place r at q =
       past = b.past;
       size = b.size;
     })
+
+pub refused_among : {n g : ℕ} {p : Given} {other : ℕ} {ys zs : List ℕ} (e : Refusal) (list : List Design)
+    → Lowest (records_faults n g list) other → ReducesBeside n g p other ys zs (unplaced_answer (Err e))
+    → ReducesAmong n g p list ys zs (smallest_answer (Err e))
+refused_among {n} {g} {p} {other} {ys} {zs} e list low f =
+    let b = f.made in
+    record {
+      number = all_lowest f (records_faults n g list) low;
+      blank_design = b.blank_design;
+      no_mask = b.no_mask;
+      no_place = λ _. refl;
+      untouched = b.untouched;
+      design = b.design;
+      place = λ q. absurd (omega (arith, number_positive e));
+      past = b.past;
+      size = b.size;
+    }
+
+pub placed_among : {n g : ℕ} {p : Given} {other : ℕ} {ys zs : List ℕ} (mask : ℕ) (design : Design) (list : List Design)
+    → Lowest (records_faults n g list) other → ReducesBeside n g p other ys zs (unplaced_answer (Ok (record { mask = mask; design = design })))
+    → (place : ℕ) → DesignPlace list design place
+    → ReducesAmong n g p list ys zs (smallest_answer (Ok (record { mask = mask; place = place; design = design })))
+placed_among mask design list low f place at =
+    formed_among list low f place _ at (record { at = place; shown = record { found = λ _. refl; refused = λ h. absurd (omega arith) }; is = refl })
 
 -- an accepted form's columns in a lent list
 pub lent_form : {n m : ℕ} {p : Given} {c names filled : List ℕ} {mask : ℕ} → Formed n m p c names mask → Equal n filled c → Formed n m p filled names mask
@@ -142,3 +179,34 @@ formed_into {n} {g} {p} {list} {out} listed other {ys} {zs} {form} low lent f fi
       past = λ e. ((q.lent (accepted e)).past, b.past (accepted e));
       size = (q.size, b.size);
     }
+
+-- a refused form, and an accepted one
+pub refused_into : {n g : ℕ} {p : Given} {list out : List ℕ} (listed other : ℕ) {ys zs : List ℕ} (e : Refusal)
+    → Lowest (wanted_plans_faults n g 3 false list) listed → Lending listed (plan_bytes n) (length out) other
+    → ReducesBeside n g p other ys zs (unplaced_answer (Err e)) → ReducesInto n g p list out out ys zs (form_answer (Err e))
+refused_into listed other e low lent f =
+    formed_into listed other low lent f _ _ (record {
+      number = refl;
+      mask = refl;
+      no_place = λ _. refl;
+      untouched = λ _. refl;
+      lent = λ q. absurd (omega (arith, number_positive e));
+      place = λ q. absurd (omega (arith, number_positive e));
+      size = refl;
+    })
+
+pub placed_into : {n g : ℕ} {p : Given} {list out : List ℕ} (listed other : ℕ) {ys zs : List ℕ} (mask : ℕ) (design : Design)
+    → Lowest (wanted_plans_faults n g 3 false list) listed → Lending listed (plan_bytes n) (length out) other
+    → ReducesBeside n g p other ys zs (unplaced_answer (Ok (record { mask = mask; design = design })))
+    → (filled : List ℕ) (place : ℕ) → LentPlan n design.columns out filled → ColumnsPlace n list design.columns place
+    → ReducesInto n g p list out filled ys zs (form_answer (Ok (record { mask = mask; place = place })))
+placed_into listed other mask design low lent f filled place l at =
+    formed_into listed other low lent f filled _ (record {
+      number = refl;
+      mask = refl;
+      no_place = λ h. absurd (omega arith);
+      untouched = λ h. absurd (omega arith);
+      lent = λ _. l;
+      place = λ _. at;
+      size = l.size;
+    })

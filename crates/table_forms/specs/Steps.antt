@@ -1,8 +1,9 @@
 -- The steps of the walk: its start, a factor that follows the basic factors, one more basic factor, and the runs that are refused.
 use Rattle.std.specs.Prelude.{◌≡◌, refl, Bool, true, false, List, [], ◌∷◌, ℕ, ◌+◌, ◌*◌, ◌^◌, ◌<◌, ◌≤◌, eqb, length, get_or, set, replicate}
-use Rattle.std.proofs.Common.{sym, ap, ap₂, ◌∙◌, subst, arith, eq-eqb, ne_eqb, pow_pos, length-set}
+use Rattle.std.proofs.Common.{sym, ap, ap₂, ◌∙◌, subst, true≢false, arith, eq-eqb, ne_eqb, pow_pos, length-set}
 use Rattle.std.proofs.Math.Nat.{two-pow-succ}
 use Rattle.std.specs.Int.Bits.{bit_xor}
+use Rattle.std.proofs.lemmas.Bool.{false≢true}
 use Rattle.std.proofs.Math.Pow.{pow-lt}
 use Rattle.gf2.specs.Digits.{bit, odd, pick}
 use Rattle.gf2.specs.DigitLaws.{bit_ext, pow_most, pow_half}
@@ -11,7 +12,6 @@ use Rattle.gf2.specs.Members.{In}
 use Rattle.gf2.specs.Parity.{odd_bit}
 use Rattle.gf2.specs.Places.{place_in, in_place}
 use Rattle.gf2.specs.Fill.{zeros, set_unused}
-use Rattle.gf2.specs.Truth.{clash}
 use Rattle.regular.specs.Runs.{Table}
 use Rattle.standard.specs.Basics.{ColumnFits, Onto, fits_all_lem, fits_keep, fits_fresh, onto_next}
 use Rattle.standard.specs.Coordinates.{coord_lt}
@@ -46,7 +46,7 @@ fits_places bs t coords f k held h x m =
 
 -- the walk before the first factor
 pub walk_start_lem : (m : ℕ) (t place : List ℕ) → Latest (length t) (length t) (replicate 128 0) place
-    → TableWalk m t 0 (record { ok = true; columns = replicate 16 0; basics = 0; half = 1; coords = replicate 128 0; place = place })
+    → TableWalk m t 0 (record { columns = replicate 16 0; basics = 0; half = 1; coords = replicate 128 0; place = place })
 unfolding coord_of units_before
 walk_start_lem m t place l =
     record {
@@ -66,7 +66,7 @@ walk_start_lem m t place l =
 
 -- a factor that follows the basic factors
 walk_follow : (m : ℕ) (t : List ℕ) (f k : ℕ) (w : Walked) → f < 16 → (s : TableWalk m t f w) → k < 2 ^ length s.bs → ColumnFits s.bs (diffs t) f k
-    → TableWalk m t (f + 1) (record { ok = true; columns = set w.columns f k; basics = w.basics; half = w.half; coords = w.coords; place = w.place })
+    → TableWalk m t (f + 1) (record { columns = set w.columns f k; basics = w.basics; half = w.half; coords = w.coords; place = w.place })
 walk_follow m t f k w hf s l fit =
     let a = w.columns in
     let bs = s.bs in
@@ -92,7 +92,6 @@ walk_grow : (m : ℕ) (t : List ℕ) (f k : ℕ) (w : Walked) (coords place : Li
     → LevelsExtended t w.coords coords f w.half (length t) → Latest (length t) (length t) coords place
     → ((n : ℕ) → Table n m t → Onto (f ∷ s.bs) (diffs t))
     → TableWalk m t (f + 1) (record {
-      ok = true;
       columns = set w.columns f k;
       basics = w.basics + 1;
       half = w.half + w.half;
@@ -179,11 +178,11 @@ missing_refused bs t coords place i held l onto h ne =
     ne (ap (λ (y : ℕ). get_or coords (get_or place y 0) 0) (sym e) ∙ l.same x p.1.0 ∙ e)
 
 -- the outcomes of a step
-pub ended : (m : ℕ) (t : List ℕ) (f : ℕ) (v : Walked) → v.ok ≡ false → ((n : ℕ) → Table n m t → ⊥) → WalkReached m t f v
-ended m t f v e h = record { walk = λ p. absurd (clash p e); refused = λ p. h }
+pub ended : (m : ℕ) (t : List ℕ) (f : ℕ) (v : Walked) → ((n : ℕ) → Table n m t → ⊥) → WalkReached m t f false v
+ended m t f v h = record { walk = λ e. absurd (false≢true e); refused = λ _. h }
 
-pub went : (m : ℕ) (t : List ℕ) (f : ℕ) (v : Walked) → v.ok ≡ true → TableWalk m t f v → WalkReached m t f v
-went m t f v e w = record { walk = λ p. w; refused = λ p. absurd (clash e p) }
+pub went : (m : ℕ) (t : List ℕ) (f : ℕ) (v : Walked) → TableWalk m t f v → WalkReached m t f true v
+went m t f v w = record { walk = λ _. w; refused = λ e. absurd (true≢false e) }
 
 module _ (m : ℕ) (t : List ℕ) (f : ℕ) (w : Walked) (s : TableWalk m t f w) where
   pub walk_small : m ≤ 7 → (w.basics ≤ 7) × (w.half ≤ 128)
@@ -209,9 +208,9 @@ module _ (m : ℕ) (t : List ℕ) (f : ℕ) (w : Walked) (s : TableWalk m t f w)
 
     module _ (e : ok ≡ true) (b : Bool) (fit : Fitting t w.coords f k b) where
       -- the candidate fits
-      pub step_follow : (v : Walked) → b ≡ true → f < 16 → ColumnGiven f k w v → WalkReached m t (f + 1) v
+      pub step_follow : (v : Walked) → b ≡ true → f < 16 → ColumnGiven f k w v → WalkReached m t (f + 1) true v
       step_follow v fits hf is =
-          went m t (f + 1) v (ap (λ (z : Walked). z.ok) is.is)
+          went m t (f + 1) v
           (subst (TableWalk m t (f + 1)) (sym is.is)
           (walk_follow m t f k w hf s (step_below e) (fits_places s.bs t w.coords f k s.held (fit.all fits))))
 
@@ -224,8 +223,8 @@ module _ (m : ℕ) (t : List ℕ) (f : ℕ) (w : Walked) (s : TableWalk m t f w)
       pub step_full : b ≡ false → w.basics ≡ m → (n : ℕ) → Table n m t → ⊥
       step_full bad full n tab = full_refused n m t s.bs f tab (sym s.basics ∙ full) (step_onto bad n tab)
 
-      pub step_grow : (v : Walked) → b ≡ false → f < 16 → (w.basics ≡ m → ⊥) → BasicAdded t f w v → WalkReached m t (f + 1) v
+      pub step_grow : (v : Walked) → b ≡ false → f < 16 → (w.basics ≡ m → ⊥) → BasicAdded t f w v → WalkReached m t (f + 1) true v
       step_grow v bad hf room g =
-          went m t (f + 1) v (ap (λ (z : Walked). z.ok) g.is)
+          went m t (f + 1) v
           (subst (TableWalk m t (f + 1)) (sym g.is)
           (walk_grow m t f w.half w v.coords v.place hf s refl (omega (arith, s.basics, s.few, room)) g.extended g.latest (step_onto bad)))

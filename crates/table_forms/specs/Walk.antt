@@ -75,12 +75,11 @@ pub record TableWalk (m : ℕ) (t : List ℕ) (f : ℕ) (w : Walked) : Type 0 wh
 
 -- v is w with the column k for factor f
 pub record ColumnGiven (f k : ℕ) (w v : Walked) : Type 0 where
-  pub is : v ≡ record { ok = true; columns = set w.columns f k; basics = w.basics; half = w.half; coords = w.coords; place = w.place }
+  pub is : v ≡ record { columns = set w.columns f k; basics = w.basics; half = w.half; coords = w.coords; place = w.place }
 
 -- v is w with factor f as one more basic factor
 pub record BasicAdded (t : List ℕ) (f : ℕ) (w v : Walked) : Type 0 where
   pub is : v ≡ record {
-    ok = true;
     columns = set w.columns f w.half;
     basics = w.basics + 1;
     half = w.half + w.half;
@@ -91,9 +90,9 @@ pub record BasicAdded (t : List ℕ) (f : ℕ) (w v : Walked) : Type 0 where
   pub latest : Latest (length t) (length t) v.coords v.place
 
 -- the walk went on to factor f, or the runs are not different and regular
-pub record WalkReached (m : ℕ) (t : List ℕ) (f : ℕ) (w : Walked) : Type 0 where
-  pub walk : w.ok ≡ true → TableWalk m t f w
-  pub refused : w.ok ≡ false → (n : ℕ) → Table n m t → ⊥
+pub record WalkReached (m : ℕ) (t : List ℕ) (f : ℕ) (ok : Bool) (w : Walked) : Type 0 where
+  pub walk : ok ≡ true → TableWalk m t f w
+  pub refused : ok ≡ false → (n : ℕ) → Table n m t → ⊥
 
 -- whether each of the first k runs is the last with its basic levels
 pub record AllLast (k : ℕ) (coords place : List ℕ) (ok : Bool) : Type 0 where

@@ -3,7 +3,8 @@
 // how; any other is the next basic factor.
 #![tactic(auto)]
 
-ghost use Rattle.std.specs.Prelude.{◌≡◌, true, false, ℕ, ◌+◌, ◌*◌, ◌^◌, ◌<◌, ◌≤◌, length, get_or};
+ghost use Rattle.std.specs.Prelude.{◌≡◌, true, false, ℕ, ◌+◌, ◌*◌, ◌^◌, ◌<◌, ◌≤◌, length, get_or, replicate, is_some};
+ghost use Rattle.std.specs.Option.{unwrap_or};
 ghost use Rattle.gf2.specs.Members.{In};
 ghost use Rattle.regular.specs.Runs.{Table, switched, runs_of};
 ghost use Rattle.standard.specs.Finding.{StandardFound};
@@ -18,14 +19,7 @@ const FIRST_RUNS: usize = 16;
 pub fn all_below(t: &[u16], end: usize) -> bool
     ensures { (result ≡ true → ((x : ℕ) → In x t.now → x < end)) × (result ≡ false → ((x : ℕ) × (In x t.now × (end ≤ x)))) }
 {
-    let mut i = 0;
-    while i < t.len() {
-        if end <= bits::wide(t[i]) {
-            return false;
-        }
-        i += 1;
-    }
-    true
+    t.iter().all(|&x| usize::from(x) < end)
 }
 
 // c with the level d above it, at the place of half.
@@ -33,10 +27,7 @@ fn with_level(d: u16, half: u16, c: u16) -> u16
     requires { (d < 2) × (half ≤ 128) × (c < half) }
     ensures { result ≡ d * half + c }
 {
-    if d == 0 {
-        return c;
-    }
-    half + c
+    if d == 0 { c } else { half + c }
 }
 
 // Place c holds the last of the first `count` runs whose basic levels are c; 0 if there is none.
@@ -45,52 +36,10 @@ fn places(count: usize, coords: &[u16; RUNS]) -> [usize; RUNS]
     ensures { Latest count count coords.now result }
 {
     let mut v = [0usize; RUNS];
-    let mut i = 0;
-    while i < count {
-        let c = bits::wide(coords[i]);
-        v[c] = i;
-        i += 1;
+    for i in 0..count {
+        v[usize::from(coords[i])] = i;
     }
     v
-}
-
-#[derive(Clone, Copy)]
-struct Forced {
-    ok: bool,
-    column: u16,
-}
-
-// The only column that can give factor f its levels; not ok if some basic factor is low alone in no run.
-fn candidate(
-    t: &[u16],
-    coords: &[u16; RUNS],
-    place: &[usize; RUNS],
-    basics: usize,
-    f: usize,
-) -> Forced
-    requires { (f < 16) × (basics ≤ 7) × (length t.now ≤ 128) × ((c : ℕ) → get_or place.now c 0 < length t.now) }
-    ensures { Candidate t.now coords.now place.now basics f result.ok result.column }
-{
-    let mut k: u16 = 0;
-    let mut half: u16 = 1;
-    let mut i = 0;
-    while i < basics {
-        let x = place[bits::wide(half)];
-        let c = coords[x];
-        if c != half {
-            return Forced {
-                ok: false,
-                column: 0,
-            };
-        }
-        k = with_level(bits::level(t[x] ^ t[0], f), half, k);
-        half += half;
-        i += 1;
-    }
-    Forced {
-        ok: true,
-        column: k,
-    }
 }
 
 // 0 exactly if column k gives factor f its level in each run from `from` to before `end`, the first run switched to 0. No branch and no end of
@@ -100,10 +49,8 @@ fn misfits(t: &[u16], coords: &[u16; RUNS], f: usize, k: u16, from: usize, end: 
     ensures { FitsFrom t.now coords.now f k from end result }
 {
     let mut wrong: u16 = 0;
-    let mut i = from;
-    while i < end {
-        wrong = wrong | (bits::level(t[i] ^ t[0], f) ^ bits::parity(coords[i], k));
-        i += 1;
+    for i in from..end {
+        wrong |= bits::level(t[i] ^ t[0], f) ^ bits::parity(coords[i], k);
     }
     wrong
 }
@@ -126,24 +73,19 @@ fn fits(t: &[u16], coords: &[u16; RUNS], f: usize, k: u16) -> bool
 }
 
 // The basic levels with factor f as one more basic factor.
-fn extend(t: &[u16], coords: [u16; RUNS], f: usize, half: u16) -> [u16; RUNS]
-    requires { (f < 16) × (length t.now ≤ 128) × (half ≤ 128) × ((i : ℕ) → i < length t.now → get_or coords i 0 < half) }
-    ensures { LevelsExtended t.now coords result f half (length t.now) }
+fn extend(t: &[u16], coords: &mut [u16; RUNS], f: usize, half: u16)
+    requires { (f < 16) × (length t.now ≤ 128) × (half ≤ 128) × ((i : ℕ) → i < length t.now → get_or coords.old i 0 < half) }
+    ensures { LevelsExtended t.now coords.old coords.new f half (length t.now) }
 {
-    let mut v = coords;
-    let mut i = 0;
-    while i < t.len() {
-        v[i] = with_level(bits::level(t[i] ^ t[0], f), half, v[i]);
-        i += 1;
+    for i in 0..t.len() {
+        coords[i] = with_level(bits::level(t[i] ^ t[0], f), half, coords[i]);
     }
-    v
 }
 
 // The walk: the columns of the factors passed, how many are basic, the next unit, each run's levels at the basic factors, and a run for
-// each choice of these levels. Not ok if the runs turned out not to be different and regular.
+// each choice of these levels.
 #[derive(Clone, Copy)]
 struct Walked {
-    ok: bool,
     columns: [u8; FACTORS],
     basics: usize,
     half: u16,
@@ -151,147 +93,118 @@ struct Walked {
     place: [usize; RUNS],
 }
 
-// The walk before the first factor.
-fn start(t: &[u16]) -> Walked
-    requires { (0 < length t.now) × (length t.now ≤ 128) }
-    ensures { (result.ok ≡ true) × ((m : ℕ) → TableWalk m t.now 0 result) }
-{
-    let coords = [0u16; RUNS];
-    let place = places(t.len(), &coords);
-    Walked {
-        ok: true,
-        columns: [0u8; FACTORS],
-        basics: 0,
-        half: 1,
-        coords,
-        place,
-    }
-}
-
-// Factor f takes the column k of the basic factors so far.
-fn follow(w: Walked, f: usize, k: u16) -> Walked
-    requires { (f < 16) × (k < 256) }
-    ensures { ColumnGiven f k w result }
-{
-    let mut columns = w.columns;
-    columns[f] = k as u8;
-    let coords = w.coords;
-    let place = w.place;
-    Walked {
-        ok: true,
-        columns,
-        basics: w.basics,
-        half: w.half,
-        coords,
-        place,
-    }
-}
-
-// Factor f is the next basic factor.
-fn grow(t: &[u16], w: Walked, f: usize) -> Walked
-    requires f_bound { (f < 16) × (w.basics < 7) × (w.half ≤ 64) }
-    requires t_nonzero { (0 < length t.now) × (length t.now ≤ 128) × ((i : ℕ) → i < length t.now → get_or w.coords i 0 < w.half) }
-    ensures { BasicAdded t.now f w result }
-{
-    let half = w.half;
-    let mut columns = w.columns;
-    columns[f] = half as u8;
-    let old = w.coords;
-    let coords = extend(t, old, f, half);
-    let place = places(t.len(), &coords);
-    Walked {
-        ok: true,
-        columns,
-        basics: w.basics + 1,
-        half: half + half,
-        coords,
-        place,
-    }
-}
-
-// The walk, ended.
-fn refuse(w: Walked) -> Walked
-    ensures { result.ok ≡ false }
-{
-    let mut v = w;
-    v.ok = false;
-    v
-}
-
-// The walk after factor f; not ok if the runs are not different and regular.
-fn step(m: usize, t: &[u16], w: Walked, f: usize) -> Walked
-    requires { (f < 16) × (m ≤ 7) × (length t.now ≡ 2 ^ m) × TableWalk m t.now f w }
-    ensures { WalkReached m t.now (f + 1) result }
-{
-    let basics = w.basics;
-    let coords = w.coords;
-    let place = w.place;
-    let c = candidate(t, &coords, &place, basics, f);
-    if !c.ok {
-        return refuse(w);
-    }
-    let k = c.column;
-    if fits(t, &coords, f, k) {
-        return follow(w, f, k);
-    }
-    if basics == m {
-        return refuse(w);
-    }
-    grow(t, w, f)
-}
-
-// The walk over all n factors; not ok if the runs are not different and regular.
-fn walk(n: usize, m: usize, t: &[u16]) -> Walked
-    requires { (n ≤ 16) × (m ≤ 7) × (length t.now ≡ 2 ^ m) }
-    ensures { WalkReached m t.now n result }
-{
-    let mut w = start(t);
-    let mut f = 0;
-    while f < n {
-        w = step(m, t, w, f);
-        if !w.ok {
-            return w;
+impl Walked {
+    // The walk before the first factor.
+    fn start(t: &[u16]) -> Walked
+        requires { (0 < length t.now) × (length t.now ≤ 128) }
+        ensures { (m : ℕ) → TableWalk m t.now 0 result }
+    {
+        let coords = [0; RUNS];
+        Walked {
+            columns: [0; FACTORS],
+            basics: 0,
+            half: 1,
+            coords,
+            place: places(t.len(), &coords),
         }
-        f += 1;
     }
-    w
-}
 
-// Whether each of the first `count` runs is the last with its basic levels.
-fn all_last(count: usize, coords: &[u16; RUNS], place: &[usize; RUNS]) -> bool
-    requires { (count ≤ 128) × ((i : ℕ) → i < count → get_or coords.now i 0 < 128) }
-    ensures { AllLast count coords.now place.now result }
-{
-    let mut i = 0;
-    while i < count {
-        if place[bits::wide(coords[i])] != i {
+    // The only column that can give factor f its levels; none if some basic factor is low alone in no run.
+    fn candidate(&self, t: &[u16], f: usize) -> Option<u16>
+        requires { (f < 16) × (self.now.basics ≤ 7) × (length t.now ≤ 128) × ((c : ℕ) → get_or self.now.place c 0 < length t.now) }
+        ensures { Candidate t.now self.now.coords self.now.place self.now.basics f (is_some result) (unwrap_or result 0) }
+    {
+        let mut k = 0;
+        for i in 0..self.basics {
+            let half: u16 = 1 << i;
+            let x = self.place[usize::from(half)];
+            if self.coords[x] != half {
+                return None;
+            }
+            k = with_level(bits::level(t[x] ^ t[0], f), half, k);
+        }
+        Some(k)
+    }
+
+    // Factor f takes the column k of the basic factors so far.
+    fn follow(&mut self, f: usize, k: u16)
+        requires { (f < 16) × (k < 256) }
+        ensures { ColumnGiven f k self.old self.new }
+    {
+        self.columns[f] = k as u8;
+    }
+
+    // Factor f is the next basic factor.
+    fn grow(&mut self, t: &[u16], f: usize)
+        requires f_bound { (f < 16) × (self.old.basics < 7) × (self.old.half ≤ 64) }
+        requires t_nonzero { (0 < length t.now) × (length t.now ≤ 128) × ((i : ℕ) → i < length t.now → get_or self.old.coords i 0 < self.old.half) }
+        ensures { BasicAdded t.now f self.old self.new }
+    {
+        let half = self.half;
+        self.columns[f] = half as u8;
+        self.basics += 1;
+        self.half = half + half;
+        extend(t, &mut self.coords, f, half);
+        self.place = places(t.len(), &self.coords);
+    }
+
+    // The walk after factor f; false if the runs are not different and regular.
+    fn step(&mut self, m: usize, t: &[u16], f: usize) -> bool
+        requires { (f < 16) × (m ≤ 7) × (length t.now ≡ 2 ^ m) × TableWalk m t.now f self.old }
+        ensures { WalkReached m t.now (f + 1) result self.new }
+    {
+        let Some(k) = self.candidate(t, f) else {
+            return false;
+        };
+        if fits(t, &self.coords, f, k) {
+            self.follow(f, k);
+            return true;
+        }
+        if self.basics == m {
             return false;
         }
-        i += 1;
+        self.grow(t, f);
+        true
     }
-    true
+
+    // The walk over all n factors; false if the runs are not different and regular.
+    fn walk(&mut self, n: usize, m: usize, t: &[u16]) -> bool
+        requires { (n ≤ 16) × (m ≤ 7) × (length t.now ≡ 2 ^ m) × TableWalk m t.now 0 self.old }
+        ensures { WalkReached m t.now n result self.new }
+    {
+        for f in 0..n {
+            if !self.step(m, t, f) {
+                return false;
+            }
+        }
+        true
+    }
+
+    // Whether each of the first `count` runs is the last with its basic levels.
+    fn all_last(&self, count: usize) -> bool
+        requires { (count ≤ 128) × ((i : ℕ) → i < count → get_or self.now.coords i 0 < 128) }
+        ensures { AllLast count self.now.coords self.now.place result }
+    {
+        for i in 0..count {
+            if self.place[usize::from(self.coords[i])] != i {
+                return false;
+            }
+        }
+        true
+    }
 }
 
 // The standard columns of a run table, its first run switched to 0, found exactly if the runs are different and regular.
-pub fn table_columns(n: usize, m: usize, t: &[u16]) -> regular::Standardized
+pub fn table_columns(n: usize, m: usize, t: &[u16]) -> Option<[u8; FACTORS]>
     requires { (n ≤ 16) × (m ≤ 7) × (length t.now ≡ 2 ^ m) × ((x : ℕ) → In x t.now → x < 2 ^ n) }
-    ensures { StandardFound n m (Table n m t.now) (switched (get_or t.now 0 0) (runs_of t.now)) result.ok result.columns }
+    ensures { StandardFound n m (Table n m t.now) (switched (get_or t.now 0 0) (runs_of t.now)) (is_some result) (unwrap_or result (replicate 16 0)) }
 {
-    let w = walk(n, m, t);
-    if !w.ok {
-        return regular::Standardized {
-            ok: false,
-            columns: [0u8; FACTORS],
-        };
+    let mut w = Walked::start(t);
+    if !w.walk(n, m, t) {
+        return None;
     }
-    let columns = w.columns;
-    let coords = w.coords;
-    let place = w.place;
-    if !all_last(t.len(), &coords, &place) {
-        return regular::Standardized {
-            ok: false,
-            columns: [0u8; FACTORS],
-        };
+    if !w.all_last(t.len()) {
+        return None;
     }
-    regular::Standardized { ok: true, columns }
+    Some(w.columns)
 }

@@ -12,7 +12,7 @@ use Rattle.regular.specs.PlanLists.{BytesFault, plans_faults, wanted_plans_fault
 use Rattle.regular.specs.Refusals.{LentFault, WantedFault, SwitchFault, either, columns_faults, Lowest}
 use Rattle.regular.specs.RefusalLaws.{lowest_none, lowest_at, none_lowest, lowest_then, lowest_first, lent_fits, lent_is}
 use Rattle.regular.specs.SmallestAnswers.{FirstPlace, ReducesInto}
-use Rattle.regular.specs.declared.Compared.{Compared}
+use Rattle.regular.specs.Answers.{Compared}
 use Rattle.words.specs.Switches.{agree_refl}
 use Rattle.isomorphism_laws.specs.SamePlan.{carries_agree}
 use Rattle.whiteboard.specs.AnswerInstances.{five}

@@ -14,8 +14,8 @@ use Rattle.regular.specs.Same.{moved}
 use Rattle.regular.specs.Comparisons.{Differ, Compares, Witness, Checks, ChecksWitness, Told, compared_number, checked_number}
 use Rattle.regular.specs.Given.{Given, of_words, of_columns, of_runs}
 use Rattle.regular.specs.Measures.{ResolutionOf, PatternInto, ChoosesLess, HandsBackLess}
-use Rattle.regular.specs.declared.Compared.{Compared}
-use Rattle.regular.specs.declared.Checked.{Checked}
+use Rattle.regular.specs.Answers.{Compared}
+use Rattle.regular.specs.Answers.{Checked}
 use Rattle.words.specs.Switches.{agree_sym, pattern_agree, resolution_agree}
 use Rattle.signs.specs.SignLaws.{fraction_plus}
 use Rattle.isomorphism_laws.specs.Moving.{carries_names}

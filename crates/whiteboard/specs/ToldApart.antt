@@ -3,7 +3,7 @@ use Rattle.std.specs.Prelude.{◌≡◌, List, ℕ, ◌^◌, ◌≤◌, ◌<◌}
 use Rattle.std.proofs.Common.{ap, arith, pow_mono}
 use Rattle.regular.specs.Comparisons.{Compares, compared_faults, compared_number}
 use Rattle.regular.specs.Given.{Given}
-use Rattle.regular.specs.declared.Compared.{Compared}
+use Rattle.regular.specs.Answers.{Compared}
 
 mask_most : (n : ℕ) → n ≤ 16 → (mask : ℕ) → mask < 2 ^ n → mask < 65536
 mask_most n h mask l = omega (arith, pow_mono {i = n} {j = 16} h)

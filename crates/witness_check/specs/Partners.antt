@@ -1,9 +1,12 @@
 -- Partners: each run of the first table, renamed and switched, is a run of the second; then, by counting, every run of the second is one of
 -- these.
-use Rattle.std.specs.Prelude.{◌≡◌, Bool, true, List, ℕ, ◌^◌, ◌≤◌, ◌<◌, length, get_or}
-use Rattle.std.proofs.Common.{sym, ap, ◌∙◌, subst, arith}
+use Rattle.std.specs.Prelude.{◌≡◌, refl, Bool, true, false, ◌&&◌, ◌||◌, List, [], ◌∷◌, ℕ, ◌^◌, ◌≤◌, ◌<◌, length, get_or}
+use Rattle.std.specs.List.{list_any, list_all}
+use Rattle.std.proofs.Common.{sym, ap, ◌∙◌, subst, inl, inr, ⊎_elim, arith}
+use Rattle.std.proofs.Math.Dec.{eqb}
+use Rattle.std.proofs.lemmas.Bool.{eqb-true, eqb-false}
 use Rattle.std.specs.Int.Bits.{bit_xor}
-use Rattle.gf2.specs.Answers.{Tells, tells_yes}
+use Rattle.gf2.specs.Answers.{Tells, tells_yes, tells_no}
 use Rattle.gf2.specs.DigitLaws.{xor_cancel}
 use Rattle.gf2.specs.Lists.{image, image_length, of_image, image_different}
 use Rattle.gf2.specs.Members.{In, Different, pigeon}
@@ -45,6 +48,38 @@ module _ (n : ℕ) (t u p : List ℕ) (mask : ℕ) where
       subst (λ (b : Bool). Tells b (Partnered n t u p mask) (NoPartner n t u p mask)) (sym e)
       (tells_yes (Partnered n t u p mask) (NoPartner n t u p mask)
       (λ x m. let o = in_place t x m in subst (λ (y : ℕ). In (sent n p mask y) u) (sym o.1.1) (f o.0 (omega (arith, o.1.0)))))
+
+-- whether a number is in a list, by a test of each place
+in_more : (y z : ℕ) (u : List ℕ) (b : Bool) → (b ≡ true → z ≡ y) → (b ≡ false → z ≡ y → ⊥) → (r : Bool) → Tells r (In y u) (In y u → ⊥)
+    → Tells (b || r) (In y (z ∷ u)) (In y (z ∷ u) → ⊥)
+in_more y z u true same other r tells = tells_yes (In y (z ∷ u)) (In y (z ∷ u) → ⊥) (inl (sym (same refl)))
+in_more y z u false same other r tells = ((λ e. inr (tells.0 e)), (λ e m. ⊎_elim (λ q. other refl (sym q)) (tells.1 e) m))
+
+in_list : (y : ℕ) (u : List ℕ) → Tells (list_any (λ (z : ℕ). eqb z y) u) (In y u) (In y u → ⊥)
+in_list y [] = tells_no (In y []) (In y [] → ⊥) (λ m. m)
+in_list y (z ∷ u) = in_more y z u (eqb z y) (eqb-true z y) (eqb-false z y) (list_any (λ (v : ℕ). eqb v y) u) (in_list y u)
+
+-- what a test of each run finds, y x being run x renamed
+module _ (n : ℕ) (u p : List ℕ) (mask : ℕ) (y : ℕ → ℕ) (is : (x : ℕ) → y x ≡ moved p n x) where
+  abbrev pub has_partner : ℕ → Bool
+  has_partner x = list_any (λ (z : ℕ). eqb z (bit_xor (y x) mask)) u
+
+  partner_of : (x : ℕ) → Tells (has_partner x) (In (sent n p mask x) u) (In (sent n p mask x) u → ⊥)
+  partner_of x =
+      subst (λ (v : ℕ). Tells (has_partner x) (In (bit_xor v mask) u) (In (bit_xor v mask) u → ⊥)) (is x) (in_list (bit_xor (y x) mask) u)
+
+  partners_more : (x : ℕ) (t : List ℕ) (b : Bool) → Tells b (In (sent n p mask x) u) (In (sent n p mask x) u → ⊥) → (r : Bool)
+      → Tells r (Partnered n t u p mask) (NoPartner n t u p mask) → Tells (b && r) (Partnered n (x ∷ t) u p mask) (NoPartner n (x ∷ t) u p mask)
+  partners_more x t true here r tells = (
+    (λ e v m. ⊎_elim (λ q. subst (λ (w : ℕ). In (sent n p mask w) u) (sym q) (here.0 refl)) (tells.0 e v) m),
+    (λ e. let o = tells.1 e in record { run = o.run; is = inr o.is; none = o.none }),
+  )
+  partners_more x t false here r tells =
+      tells_no (Partnered n (x ∷ t) u p mask) (NoPartner n (x ∷ t) u p mask) (record { run = x; is = inl refl; none = here.1 refl })
+
+  pub partners_told : (t : List ℕ) → Tells (list_all has_partner t) (Partnered n t u p mask) (NoPartner n t u p mask)
+  partners_told [] = tells_yes (Partnered n [] u p mask) (NoPartner n [] u p mask) (λ x m. absurd m)
+  partners_told (x ∷ t) = partners_more x t (has_partner x) (partner_of x) (list_all has_partner t) (partners_told t)
 
 -- different runs below 2^n go to different runs
 module _ (n : ℕ) (t u p : List ℕ) (mask : ℕ) (r : Renaming n p) (different : Different t) (low : Within n (runs_of t)) where

@@ -1,5 +1,5 @@
 -- The verdict on a claimed witness between two admitted run tables: yes if the names, the mask and the partners are right, no if one is not.
-use Rattle.std.specs.Prelude.{◌≡◌, List, ℕ, ◌^◌, ◌≤◌, ◌<◌}
+use Rattle.std.specs.Prelude.{◌≡◌, refl, Bool, true, false, Result, Ok, Err, List, ℕ, ◌^◌, ◌≤◌, ◌<◌}
 use Rattle.std.proofs.Common.{subst, inl, arith}
 use Rattle.std.proofs.Math.Logic.{by_cases}
 use Rattle.std.proofs.Math.Decide.{ℕ_discrete}
@@ -7,9 +7,13 @@ use Rattle.regular.specs.Refusals.{runs_faults, Lowest, either}
 use Rattle.regular.specs.RefusalLaws.{none_lowest, Lower, lowest_lower, lower_none}
 use Rattle.regular.specs.Accepted.{accepted_size, accepted_table}
 use Rattle.regular.specs.Runs.{runs_of}
-use Rattle.regular.specs.Given.{of_runs}
+use Rattle.regular.specs.Given.{Given, of_runs}
 use Rattle.regular.specs.Comparisons.{Witness, Checks, ChecksWitness}
-use Rattle.regular.specs.declared.Checked.{Checked}
+use Rattle.regular.specs.Answers.{Checked, checked_of, admitted_of, refusal_of}
+use Rattle.regular.specs.declared.AcceptedPlan.{AcceptedPlan}
+use Rattle.regular.specs.declared.Refusal.{Refusal}
+use Rattle.gf2.specs.Answers.{Tells}
+use Rattle.admission.specs.Admission.{Admission}
 use Rattle.witness_check.specs.Names.{AllNamed}
 use Rattle.witness_check.specs.Partners.{Partnered, NoPartner, partners_carry}
 
@@ -56,3 +60,14 @@ module _ (n g : ℕ) (t u p : List ℕ) (mask x y r : ℕ) (a : Lowest (runs_fau
         carries = partners_carry n t u p mask w.renaming (accepted_table n g t (first e)).different (accepted_table n g t (first e)).within h
             (omega (arith, (accepted_table n g t (first e)).count, (accepted_table n g u (second e)).count)) into;
       })
+
+  -- by the partners, the names and the mask being right
+  pub check_told : (answer : Bool) → r ≡ 0 → AllNamed n p → mask < 2 ^ n → Tells answer (Partnered n t u p mask) (NoPartner n t u p mask)
+      → ChecksWitness n (of_runs n g t) (of_runs n g u) p mask (checked_of (Ok answer))
+  check_told true e w h tells = check_yes e w h (tells.0 refl)
+  check_told false e w h tells = check_no e (not_partnered n t u p mask (tells.1 refl))
+
+-- the number of an admitted plan
+pub admission_lowest : {n g : ℕ} {p : Given} (r : Result AcceptedPlan Refusal) → Admission n g p (admitted_of r) → Lowest p.faults (refusal_of r)
+admission_lowest (Ok x) ad = ad.lowest
+admission_lowest (Err e) ad = ad.lowest

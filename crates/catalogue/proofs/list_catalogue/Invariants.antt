@@ -4,8 +4,8 @@ use Rattle.std.proofs.Common.{◌-◌}
 use Rattle.catalogue.specs.Turns.{FillingBytes}
 use Rattle.catalogue.proofs.list_catalogue.Given as goal
 
-abbrev pub invariant-loop-s : goal.invariant-loop-s
-invariant-loop-s l = FillingBytes l.n l.g l.r l.initial.out l.out l.count l.c l.state
+abbrev pub invariant-loop-next : goal.invariant-loop-next
+invariant-loop-next l = FillingBytes l.n l.g l.r l.initial.out l.out l.count l.c l.state
 
-abbrev pub decreases-loop-s : goal.decreases-loop-s
-decreases-loop-s l = l.places - l.count
+abbrev pub decreases-loop-next : goal.decreases-loop-next
+decreases-loop-next l = l.places - l.count

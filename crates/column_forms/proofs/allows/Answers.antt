@@ -4,11 +4,11 @@ use Rattle.std.proofs.Common.{arith}
 use Rattle.column_forms.specs.Allowing.{allows_past, allows_cleared}
 use Rattle.column_forms.proofs.allows.Goals as goal
 
-pub returns-then-power-wide : goal.returns-then-power-wide
-returns-then-power-wide c =
-    allows_past _ _ _ (omega (arith, c.wide.ensures.0)) (omega (arith, c.wide.ensures.0, c.power.ensures.0))
+pub returns-then-power-from : goal.returns-then-power-from
+returns-then-power-from c =
+    allows_past _ _ _ (omega (arith, c.from.ensures)) (omega (arith, c.from.ensures, c.power.ensures.0))
 
 pub returns : goal.returns
 returns c =
-    allows_cleared _ _ _ _ _ c.requires.2 c.walk-w.ensures _ _ c.mask_of.ensures
-    (omega (arith, c.wide.ensures.0, c.power.ensures.0))
+    allows_cleared _ _ _ _ _ c.requires.2 c.walk.ensures _ _ c.mask_of.ensures
+    (omega (arith, c.from.ensures, c.power.ensures.0))

@@ -1,11 +1,7 @@
 -- `column_forms::distinct_nonzero` meets its contract: 0 and the columns passed are marked, and no other number, so a mark at the next column is a 0 or a
--- repeat. The measure is what is left of the columns. Assumes nothing.
-use Rattle.std.proofs.Common.{◌-◌, ◌≤◌}
+-- repeat. Assumes nothing.
 use Rattle.column_forms.specs.Tables.{Seen}
 use Rattle.column_forms.proofs.distinct_nonzero.Given as goal
 
 abbrev pub invariant-loop-f : goal.invariant-loop-f
-invariant-loop-f l = (l.f ≤ l.n) × Seen l.cols l.f l.seen
-
-abbrev pub decreases-loop-f : goal.decreases-loop-f
-decreases-loop-f l = l.n - l.f
+invariant-loop-f l = Seen l.cols l.f l.seen

@@ -10,12 +10,12 @@ bounds-places-z c =
     let p = c.requires.4 k l in
     omega (
       arith,
-      xor_lt 7 (get_or c.loop-k.sums k 0) c.args.c (omega (arith, c.loop-k.invariant.3.doubling.low k l)) (omega arith),
-      c.as_index-z.ensures.0,
+      xor_lt 7 (get_or c.loop-k.sums k 0) c.args.c (omega (arith, c.loop-k.invariant.2.doubling.low k l)) (omega arith),
+      c.from-z.ensures,
     )
 
 pub loop-k-preserved : goal.loop-k-preserved
 loop-k-preserved c =
     let i = c.loop-k.invariant in
-    let b : c.as_index-z.result < 128 = bounds-places-z c in
-    (omega arith, search rules, search rules, grown_more _ _ _ _ _ _ _ _ (omega arith) (omega arith) c.as_index-z.ensures.0 (omega arith) i.3)
+    let b : c.from-z.result < 128 = bounds-places-z c in
+    (search rules, search rules, grown_more _ _ _ _ _ _ _ _ (omega arith) (omega arith) c.from-z.ensures (omega arith) i.2)

@@ -1,26 +1,26 @@
-use Rattle.std.proofs.Common.{◌≡◌, ◌∙◌, refl, ap, ap₂, arith, ◌*◌, ◌-◌, ◌^◌, get_or}
+use Rattle.std.proofs.Common.{◌∙◌, refl, sym, ap, ap₂, arith, ◌-◌}
 use Rattle.std.specs.Int.Bits.{bit_xor}
 use Rattle.regular.specs.Words.{total}
+use Rattle.word_forms.specs.Turns.{total_part}
 use Rattle.generators.specs.Walk.{walked_none, walked_basic, walked_word}
 use Rattle.generators.proofs.generators.Goals as goal
+use Rattle.generators.proofs.generators.Goals.{then-c-unit, else-c-unit}
 
 pub loop-f-init : goal.loop-f-init
-loop-f-init c = (omega arith, walked_none c.args.columns)
-
-pub loop-f-preserved-then-c-unit : goal.loop-f-preserved-then-c-unit
-loop-f-preserved-then-c-unit c =
-    let s = c.args in
-    let l = c.loop-f in
-    let wide = c.as_index-c.ensures.0 in
-    let e : get_or s.columns l.f 0 ≡ l.unit = omega (arith, wide) in
-    (omega arith, walked_basic s.columns l.f l.m l.unit l.basics l.words (omega arith) l.invariant.1 c.letter.result e c.letter.ensures)
+loop-f-init c = walked_none c.args.columns
 
 pub loop-f-preserved : goal.loop-f-preserved
 loop-f-preserved c =
-    let s = c.args in
+    let a = c.args.columns in
     let l = c.loop-f in
-    let wide = c.as_index-c.ensures.0 in
-    let ne : get_or s.columns l.f 0 ≡ l.unit → ⊥ = λ e. omega (arith, wide) in
-    let e : bit_xor c.letter-in-loop-f.result c.basics_in.result ≡ bit_xor (1 * 2 ^ l.f) (total l.basics l.m (get_or s.columns l.f 0)) =
-    ap₂ bit_xor c.letter-in-loop-f.ensures (c.basics_in.ensures ∙ ap (total l.basics l.m) wide) in
-    (omega arith, walked_word s.columns l.f l.m l.unit l.basics l.words (omega arith) l.invariant.1 (l.f - l.m) _ ne refl e)
+    let is = c.from-c.ensures in
+    elim c.if-c-unit.branch [
+      | then-c-unit b ↦
+          rw (b.words-is, b.basics-is, b.unit-is, b.m-is)
+          (walked_basic a l.f l.m l.unit l.basics l.words (omega arith) l.invariant b.letter.result (sym is ∙ b.if-c-unit.true) b.letter.ensures)
+      | else-c-unit b ↦
+          rw (b.words-is, b.basics-is, b.unit-is, b.m-is)
+          (walked_word a l.f l.m l.unit l.basics l.words (omega arith) l.invariant (l.f - l.m) _ (λ e. b.if-c-unit.false (is ∙ e)) refl
+          (b.total_from.ensures
+          ∙ ap₂ bit_xor b.letter-else-c-unit.ensures (total_part l.basics l.m c.from-c.result (omega arith) ∙ ap (total l.basics l.m) is)))
+    ]

@@ -1,21 +1,15 @@
 -- `lent::lending` meets its contract: a refusal is passed on, then too few places refuse. Assumes nothing.
-use Rattle.std.proofs.Common.{arith}
-use Rattle.lent.specs.Lending.{Lending}
+use Rattle.std.proofs.Common.{rules}
+use Rattle.lent.specs.Lending.{Lending, lending_refused}
 use Rattle.lent.proofs.lending.Goals as goal
 
-pub returns-then-number-ne0 : goal.returns-then-number-ne0
-returns-then-number-ne0 c =
-    let t = c.if-number-ne0.true in
-    Lending.passed (omega arith)
+pub returns-in_err-value-clause-number : goal.returns-in_err-value-clause-number
+returns-in_err-value-clause-number g c =
+    let a = c.args in
+    lending_refused c.in_err-value.field-0.0 a.other c.from_residual.result a.n a.places c.in_err-value.was (search rules)
 
-pub returns-then-places-n : goal.returns-then-places-n
-returns-then-places-n c =
-    let t = c.if-number-ne0.false in
-    let u = c.if-places-n.true in
-    Lending.short t u
+pub returns-then-places-n-clause-number : goal.returns-then-places-n-clause-number
+returns-then-places-n-clause-number g c = Lending.short (search rules) c.if-places-n.true
 
-pub returns : goal.returns
-returns c =
-    let t = c.if-number-ne0.false in
-    let u = c.if-places-n.false in
-    Lending.none t (omega arith)
+pub returns-clause-number : goal.returns-clause-number
+returns-clause-number g c = Lending.none (search rules) c.if-places-n.false

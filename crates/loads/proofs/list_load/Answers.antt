@@ -1,19 +1,16 @@
--- `loads::list_load` meets its contract: a refused size and a list that is too short give the seed back, any other call lends the plan of the load.
--- Assumes nothing.
-use Rattle.std.proofs.Common.{◌≡◌, ℕ, refl, arith}
-use Rattle.regular.specs.Loads.{LoadsInto}
+-- `loads::list_load` meets its contract: a list that is too short gives the seed back; any other call lends the plan of the load. Assumes nothing.
+use Rattle.std.proofs.Common.{◌≡◌, refl, arith, rules}
+use Rattle.std.specs.Prelude.{Err}
+use Rattle.regular.specs.RefusalLaws.{number_positive}
 use Rattle.loads.specs.Answers.{into_lent}
 use Rattle.loads.proofs.list_load.Goals as goal
 
-pub returns-then-lent-ne0 : goal.returns-then-lent-ne0
-returns-then-lent-ne0 c =
-    let answers : (state : ℕ) → (c.lend_plan-lent.result ≡ 0 → state ≡ c.drawn_load-drawn.result.state)
-    → ((c.lend_plan-lent.result ≡ 0 → ⊥) → state ≡ c.args.seed)
-    → LoadsInto c.args.n c.args.g c.args.seed c.args.out.now c.lend_plan-lent.new.out
-    (record { number = c.lend_plan-lent.result; state = state }) =
-    λ state filled short. (let q = c.load_number-number in
-    let d = c.drawn_load-drawn in
+pub returns-in_err-lend_plan : goal.returns-in_err-lend_plan
+returns-in_err-lend_plan c =
     let a = c.args in
-    into_lent a.n a.g a.seed q.result q.ensures.0 c.if-number-ne0.false d.result.columns d.result.state d.ensures a.out.now
-    c.lend_plan-lent.new.out c.lend_plan-lent.result c.lend_plan-lent.ensures state (λ h. short (λ e. omega arith)) filled) in
-    answers c.args.seed (λ e. absurd (c.if-lent-ne0.true e)) (λ _. refl)
+    let d = c.drawn_load-state in
+    let l = c.lend_plan in
+    let e = c.in_err-lend_plan.field-0.0 in
+    let is : c.from_residual-in_err-lend_plan.result ≡ Err e = search rules in
+    rw is (into_lent a.n a.g a.seed 0 c.in_ok-check_room.ensures.0 refl d.result.columns d.result.state d.ensures a.out.now l.new.out _
+    c.in_err-lend_plan.ensures a.seed (λ _. refl) (λ z. absurd (omega (arith, number_positive e))))

@@ -19,6 +19,5 @@ loop-i-preserved c =
 
 pub returns : goal.returns
 returns c =
-    let l = c.loop-i in
     let a = c.args in
-    none_all a.n a.list.now a.c l.i l.invariant c.requires.0 (omega (arith, c.plan_count-count.ensures, c.loop-i-test.false))
+    none_all a.n a.list.now a.c c.loop-i.i c.loop-i.invariant c.requires.0 (omega (arith, c.plan_count-count.ensures))

@@ -1,7 +1,7 @@
--- `measures::resolution` meets its contract: a refusal is passed on, else the first length with a word is the shortest word's. Assumes nothing.
+-- `measures::resolution` meets its contract: the first length with a word is the shortest word's. Assumes nothing.
+use Rattle.std.proofs.Common.{refl}
 use Rattle.measures.specs.Measured.{resolution_made}
 use Rattle.measures.proofs.resolution.Goals as goal
 
-pub returns-then-number-eq0 : goal.returns-then-number-eq0
-returns-then-number-eq0 c =
-    resolution_made c.if-number-eq0.true c.pattern-counts.ensures.0 c.resolution_of-resolution.ensures
+pub returns : goal.returns
+returns c = (resolution_made refl c.pattern.ensures.0 c.resolution_of.ensures).made refl

@@ -1,32 +1,31 @@
 -- `reading::open` meets its contract: the header's record, then its sizes. Assumes nothing.
+use Rattle.std.proofs.Common.{◌≡◌, refl, arith, rules}
+use Rattle.std.specs.Prelude.{Ok, Err}
+use Rattle.regular.specs.Answers.{number, read_answer}
 use Rattle.regular.specs.Book.{header_kind, header_length}
 use Rattle.regular.specs.ReadingLaws.{record_zero}
+use Rattle.regular.specs.RefusalLaws.{number_positive}
 use Rattle.reading.specs.AnswerLaws.{opened_other, opened_bounds, opened}
 use Rattle.reading.proofs.open.Goals as goal
 
-pub returns-then-number-ne0 : goal.returns-then-number-ne0
-returns-then-number-ne0 c =
-    opened_other c.args.book.now c.record_number-number.result c.record_number-number.ensures c.refused.result c.refused.ensures
-    c.if-number-ne0.true
+pub returns-in_err-check_record : goal.returns-in_err-check_record
+returns-in_err-check_record c =
+    let e = c.in_err-check_record.field-0.0 in
+    let up : c.from_residual.result ≡ Err e = search rules in
+    rw up (opened_other c.args.book.now (number e) c.in_err-check_record.ensures (read_answer (Err e)) refl (λ z. omega (arith, number_positive e)))
 
 pub header_of-header-requires : goal.header_of-header-requires
-header_of-header-requires c =
-    (record_zero header_kind header_length c.args.book.now 0 c.record_number-number.result c.if-number-ne0.false c.record_number-number.ensures).1
+header_of-header-requires c = (record_zero header_kind header_length c.args.book.now 0 0 refl c.in_ok-check_record.ensures).1
 
-pub returns-then-bounds-ne0 : goal.returns-then-bounds-ne0
-returns-then-bounds-ne0 c =
-    let k = c.record_number-number in
-    opened_bounds c.args.book.now k.result k.ensures c.if-number-ne0.false c.header_of-header.result c.header_of-header.ensures
-    c.as_index-n.result c.as_index-g.result c.as_index-r.result
-    c.bounds_number-bounds.result
-    (c.as_index-n.ensures.0, c.as_index-g.ensures.0, c.as_index-r.ensures.0) c.bounds_number-bounds.ensures.0
-    c.refused-then-bounds-ne0.result c.refused-then-bounds-ne0.ensures c.if-bounds-ne0.true
+pub returns-in_err-check_bounds : goal.returns-in_err-check_bounds
+returns-in_err-check_bounds c =
+    let e = c.in_err-check_bounds.field-0.0 in
+    let up : c.from_residual-in_err-check_bounds.result ≡ Err e = search rules in
+    rw up (opened_bounds c.args.book.now 0 c.in_ok-check_record.ensures refl (read_answer (Ok c.header_of-header.result)) c.header_of-header.ensures
+    c.from-n.result c.from-g.result c.from-r.result (number e) (c.from-n.ensures, c.from-g.ensures, c.from-r.ensures) c.in_err-check_bounds.ensures.0
+    (read_answer (Err e)) refl (λ z. omega (arith, number_positive e)))
 
 pub returns : goal.returns
 returns c =
-    let k = c.record_number-number in
-    opened c.args.book.now k.result k.ensures c.if-number-ne0.false c.header_of-header.result c.header_of-header.ensures
-    c.as_index-n.result c.as_index-g.result c.as_index-r.result
-    c.bounds_number-bounds.result
-    (c.as_index-n.ensures.0, c.as_index-g.ensures.0, c.as_index-r.ensures.0) c.bounds_number-bounds.ensures.0
-    c.if-bounds-ne0.false
+    opened c.args.book.now 0 c.in_ok-check_record.ensures refl (read_answer (Ok c.header_of-header.result)) c.header_of-header.ensures
+    c.from-n.result c.from-g.result c.from-r.result 0 (c.from-n.ensures, c.from-g.ensures, c.from-r.ensures) c.in_ok-check_bounds.ensures.0 refl

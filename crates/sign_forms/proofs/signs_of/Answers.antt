@@ -5,8 +5,7 @@ use Rattle.sign_forms.proofs.signs_of.Goals as goal
 
 pub loop-i-init : goal.loop-i-init
 unfolding run_of
-loop-i-init c = (omega arith, refl)
+loop-i-init c = refl
 
 pub loop-i-preserved : goal.loop-i-preserved
-loop-i-preserved c =
-    (omega arith, run_turn _ _ _ _ _ (omega arith) c.loop-i.invariant.1 c.parity.ensures.0)
+loop-i-preserved c = run_turn _ _ _ _ _ (omega arith) c.loop-i.invariant c.parity.ensures.0

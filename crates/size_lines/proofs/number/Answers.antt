@@ -3,15 +3,11 @@ use Rattle.std.proofs.Common.{arith}
 use Rattle.size_lines.proofs.Laws.{no_digit, one_digit, two_digits}
 use Rattle.size_lines.proofs.number.Goals as goal
 
-pub returns-then-d-gt9 : goal.returns-then-d-gt9
-returns-then-d-gt9 c =
-    no_digit _ _ _ c.digit-d.ensures c.if-d-gt9.true
+pub returns-in_err-d-clause-part : goal.returns-in_err-d-clause-part
+returns-in_err-d-clause-part c = rw c.from_residual.ensures (no_digit c.args.line.now c.args.p 10 c.in_err-d.ensures.is (omega arith))
 
-pub returns-then-e-gt9 : goal.returns-then-e-gt9
-returns-then-e-gt9 c =
-    one_digit _ _ _ _ c.digit-d.ensures (omega (arith, c.if-d-gt9.false)) c.digit-e.ensures c.if-e-gt9.true
+pub returns-in-Some-clause-part : goal.returns-in-Some-clause-part
+returns-in-Some-clause-part c = two_digits _ _ _ _ c.in_ok-d.ensures.is c.in_ok-d.ensures.some c.in-Some.ensures.is c.in-Some.ensures.some
 
-pub returns : goal.returns
-returns c =
-    two_digits _ _ _ _ c.digit-d.ensures (omega (arith, c.if-d-gt9.false)) c.digit-e.ensures
-    (omega (arith, c.if-e-gt9.false))
+pub returns-in-None-clause-part : goal.returns-in-None-clause-part
+returns-in-None-clause-part c = one_digit _ _ _ _ c.in_ok-d.ensures.is c.in_ok-d.ensures.some c.in-None.ensures.is (omega arith)

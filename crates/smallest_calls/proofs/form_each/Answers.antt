@@ -1,41 +1,32 @@
 use Rattle.std.proofs.Common.{◌<◌, arith, length}
-use Rattle.regular.specs.PlanBytes.{plan_count, HasPlan}
+use Rattle.regular.specs.PlanBytes.{plan_count}
 use Rattle.smallest_calls.specs.Each.{reduced_fits, turn_columns, turn_place, turn_more}
 use Rattle.smallest_calls.proofs.form_each.Goals as goal
 
 pub form_into-requires : goal.form_into-requires
 form_into-requires c =
-    let less : c.loop-i.i < plan_count c.args.n (length c.args.plans.now) =
-    omega (arith, c.plan_count-count.ensures, c.loop-i-test.true) in
-    let fits : HasPlan c.args.n c.loop-i.forms c.loop-i.i × HasPlan c.args.n c.loop-i.witnesses c.loop-i.i =
-    let a = c.args in
-    let p = c.requires in
-    let l = c.loop-i in
-    reduced_fits a.n a.g a.plans.now p.0 a.forms.now a.witnesses.now p.1 p.2 l.i l.forms l.witnesses l.invariant.0 less in
     let a = c.args in
     let q = c.requires in
     let l = c.loop-i in
     let from = c.plan_start-start in
     let to = c.plan_start-end in
-    let place = turn_place a.n a.g a.plans.now q.0 a.forms.now a.witnesses.now q.1 q.2 l.i l.forms l.witnesses l.invariant.0
-    (less) from.result to.result from.ensures to.ensures in (
-      turn_columns a.n a.g a.plans.now q.0 a.forms.now a.witnesses.now q.1 q.2 l.i l.forms l.witnesses l.invariant.0 (less)
+    let less : l.i < plan_count a.n (length a.plans.now) = omega arith in
+    let fits = reduced_fits a.n a.g a.plans.now q.0 a.forms.now a.witnesses.now q.1 q.2 l.i l.forms l.witnesses l.invariant less in
+    let place = turn_place a.n a.g a.plans.now q.0 a.forms.now a.witnesses.now q.1 q.2 l.i l.forms l.witnesses l.invariant less
+    from.result to.result from.ensures to.ensures in (
+      turn_columns a.n a.g a.plans.now q.0 a.forms.now a.witnesses.now q.1 q.2 l.i l.forms l.witnesses l.invariant less
           from.result to.result from.ensures to.ensures,
-      place l.forms (fits).0,
-      place l.witnesses (fits).1,
+      place l.forms fits.0,
+      place l.witnesses fits.1,
     )
 
 pub loop-i-preserved : goal.loop-i-preserved
 loop-i-preserved c =
-    let less : c.loop-i.i < plan_count c.args.n (length c.args.plans.now) =
-    omega (arith, c.plan_count-count.ensures, c.loop-i-test.true) in
     let a = c.args in
     let q = c.requires in
     let l = c.loop-i in
     let from = c.plan_start-start in
-    let to = c.plan_start-end in (
-      turn_more a.n a.g a.plans.now q.0 a.forms.now a.witnesses.now q.1 q.2 l.i l.forms l.witnesses l.invariant.0 (less)
-          from.result to.result from.ensures to.ensures c.form_into.new.out c.form_into.new.witness
-          c.form_into.ensures,
-      omega (arith, c.loop-i-test.true),
-    )
+    let to = c.plan_start-end in
+    let less : l.i < plan_count a.n (length a.plans.now) = omega arith in
+    turn_more a.n a.g a.plans.now q.0 a.forms.now a.witnesses.now q.1 q.2 l.i l.forms l.witnesses l.invariant less
+    from.result to.result from.ensures to.ensures c.form_into.new.out c.form_into.new.witness c.form_into.ensures

@@ -1,69 +1,53 @@
 -- `smallest_calls::smallest_of_plans` meets its contract: all plans and both lists are judged before any form is written. Assumes nothing.
-use Rattle.std.proofs.Common.{ℕ, ◌≤◌, ◌≡◌, subst, length}
+use Rattle.std.proofs.Common.{ℕ, ◌≤◌, ◌≡◌, refl, subst, arith, length, rules}
+use Rattle.std.specs.Prelude.{Err, List, false}
+use Rattle.regular.specs.Answers.{number}
 use Rattle.regular.specs.Refusals.{Lowest}
+use Rattle.regular.specs.RefusalLaws.{number_positive}
+use Rattle.regular.specs.PlanLists.{plans_faults, wanted_plans_faults}
 use Rattle.regular.specs.SmallestAnswers.{each_faults}
-use Rattle.regular.specs.PlanLists.{plans_faults}
 use Rattle.plan_lists.specs.Judging.{three_plans}
-use Rattle.lent.specs.Lending.{lending_lowest, lending_accepted}
+use Rattle.lent.specs.Lending.{Lending, lending_lowest, lending_accepted}
 use Rattle.smallest_calls.specs.Others.{others, others_most, others_lowest}
 use Rattle.smallest_calls.specs.Each.{plans_some, each_refused, each_reduced}
 use Rattle.smallest_calls.proofs.smallest_of_plans.Goals as goal
 
-pub returns-then-refused-ne0 : goal.returns-then-refused-ne0
-returns-then-refused-ne0 c =
-    let places : ℕ =
-    length c.args.plans.now in
-    let LowestOfAll : ℕ → Type 0 =
+-- the plans judged, then the list for the forms, then that for the witnesses
+module _ (n g : ℕ) (plans forms witnesses : List ℕ) (judged first : ℕ) (low : Lowest (wanted_plans_faults n g 3 false plans) judged)
+    (room : Lending judged (length plans) (length forms) first) where
+  lowest : (all : ℕ) → Lending first (length plans) (length witnesses) all → Lowest (each_faults n g plans forms witnesses) all
+  lowest all l =
+      lending_lowest (others n g plans (length plans) forms) first (length plans) witnesses all
+      (others_lowest n g plans (length plans) forms judged first low room) (others_most n g plans (length plans) forms) l
+
+  accepted : Lending first (length plans) (length witnesses) 0
+      → Lowest (plans_faults n g plans) 0 × (length plans ≤ length forms) × (length plans ≤ length witnesses)
+  accepted l =
+      let names_fit = lending_accepted first (length plans) (length witnesses) 0 l refl in
+      let forms_fit = lending_accepted judged (length plans) (length forms) first room names_fit.0 in
+      (subst (Lowest (plans_faults n g plans)) forms_fit.0 (three_plans n g plans judged low), forms_fit.1, names_fit.1)
+
+pub returns-in_err-lending : goal.returns-in_err-lending
+returns-in_err-lending c =
     let a = c.args in
-    Lowest (each_faults a.n a.g a.plans.now a.forms.now a.witnesses.now) in
-    let lowest : LowestOfAll c.lending-refused.result =
-    let a = c.args in
-    let k = c.plans_refusal in
-    let v = c.lending-first in
-    let w = c.lending-refused in
-    lending_lowest (others a.n a.g a.plans.now places a.forms.now) v.result places a.witnesses.now w.result
-    (others_lowest a.n a.g a.plans.now places a.forms.now k.result v.result k.ensures v.ensures)
-    (others_most a.n a.g a.plans.now places a.forms.now) w.ensures in
-    let a = c.args in
-    each_refused a.n a.g a.plans.now a.forms.now a.witnesses.now c.lending-refused.result c.if-refused-ne0.true (lowest)
+    let e = c.in_err-lending.field-0.0 in
+    let is : c.from_residual.result ≡ Err e = search rules in
+    rw is (each_refused a.n a.g a.plans.now a.forms.now a.witnesses.now (number e) (λ z. omega (arith, number_positive e))
+    (lowest a.n a.g a.plans.now a.forms.now a.witnesses.now _ _ c.check_plans-judged.ensures c.lending-first.ensures.number (number e)
+    c.in_err-lending.ensures.number))
 
 pub form_each-requires : goal.form_each-requires
 form_each-requires c =
     let a = c.args in
-    let e = c.if-refused-ne0.false in
-    let places : ℕ = length c.args.plans.now in
-    let k = c.plans_refusal in
-    let v = c.lending-first in
-    let w = c.lending-refused in
-    let names_fit : (v.result ≡ 0) × (places ≤ length c.args.witnesses.now) =
-    lending_accepted v.result places (length c.args.witnesses.now) w.result w.ensures e in
-    let forms_fit : (k.result ≡ 0) × (places ≤ length c.args.forms.now) =
-    lending_accepted k.result places (length c.args.forms.now) v.result v.ensures names_fit.0 in
-    let accepted : Lowest (plans_faults a.n a.g a.plans.now) 0 =
-    subst (Lowest (plans_faults a.n a.g a.plans.now)) forms_fit.0 (three_plans a.n a.g a.plans.now k.result k.ensures) in
-    (accepted, forms_fit.1, names_fit.1)
+    accepted a.n a.g a.plans.now a.forms.now a.witnesses.now _ _ c.check_plans-judged.ensures c.lending-first.ensures.number c.in_ok-lending.ensures.number
 
 pub returns : goal.returns
 returns c =
     let a = c.args in
-    let e = c.if-refused-ne0.false in
-    let places : ℕ = length c.args.plans.now in
-    let k = c.plans_refusal in
-    let v = c.lending-first in
-    let w = c.lending-refused in
-    let names_fit : (v.result ≡ 0) × (places ≤ length c.args.witnesses.now) =
-    lending_accepted v.result places (length c.args.witnesses.now) w.result w.ensures e in
-    let forms_fit : (k.result ≡ 0) × (places ≤ length c.args.forms.now) =
-    lending_accepted k.result places (length c.args.forms.now) v.result v.ensures names_fit.0 in
-    -- nothing is refused: both lists have the places, and no plan has a fault
-    let accepted : Lowest (plans_faults a.n a.g a.plans.now) 0 =
-    subst (Lowest (plans_faults a.n a.g a.plans.now)) forms_fit.0 (three_plans a.n a.g a.plans.now k.result k.ensures) in
-    let LowestOfAll : ℕ → Type 0 =
-    Lowest (each_faults a.n a.g a.plans.now a.forms.now a.witnesses.now) in
-    let lowest : LowestOfAll c.lending-refused.result =
-    lending_lowest (others a.n a.g a.plans.now places a.forms.now) v.result places a.witnesses.now w.result
-    (others_lowest a.n a.g a.plans.now places a.forms.now k.result v.result k.ensures v.ensures)
-    (others_most a.n a.g a.plans.now places a.forms.now) w.ensures in
     let f = c.form_each in
+    let low = c.check_plans-judged.ensures in
+    let room = c.lending-first.ensures.number in
+    let fit = c.in_ok-lending.ensures.number in
     each_reduced a.n a.g a.plans.now a.forms.now f.new.forms a.witnesses.now f.new.witnesses
-    (plans_some a.n a.g a.plans.now accepted) (subst (LowestOfAll) e (lowest)) f.ensures
+    (plans_some a.n a.g a.plans.now (accepted a.n a.g a.plans.now a.forms.now a.witnesses.now _ _ low room fit).0)
+    (lowest a.n a.g a.plans.now a.forms.now a.witnesses.now _ _ low room 0 fit) f.ensures

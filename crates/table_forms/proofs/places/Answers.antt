@@ -3,4 +3,4 @@ use Rattle.table_forms.specs.Turns.{latest_none}
 use Rattle.table_forms.proofs.places.Goals as goal
 
 pub loop-i-init : goal.loop-i-init
-loop-i-init c = (omega arith, latest_none _ _ (omega arith))
+loop-i-init c = latest_none _ _ (omega arith)

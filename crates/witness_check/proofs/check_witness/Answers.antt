@@ -1,83 +1,43 @@
--- `witness_check::check_witness` meets its contract: the lower of the tables' numbers is the refusal's; then the names, the mask and the partners
--- are tested, and a witness passes each test. Assumes nothing.
-use Rattle.std.proofs.Common.{arith}
-use Rattle.regular.specs.Comparisons.{Witness, ChecksWitness}
-use Rattle.regular.specs.Runs.{runs_of}
-use Rattle.regular.specs.Given.{of_runs}
-use Rattle.regular.specs.declared.Checked.{Checked}
-use Rattle.witness_check.specs.Verdict.{check_refused, check_no, check_yes, not_named, not_within, not_partnered}
+-- `witness_check::check_witness` meets its contract: the lower refusal of the tables is passed on; then the names, the mask and the partners are tested, and
+-- a witness passes each test. Assumes nothing.
+use Rattle.std.proofs.Common.{◌≡◌, arith, rules, sym, refl, ◌∙◌}
+use Rattle.std.specs.Prelude.{Err, true, false}
+use Rattle.std.proofs.lemmas.Bool.{ltb-true, ltb-false, false≢true}
+use Rattle.regular.specs.RefusalLaws.{number_positive}
+use Rattle.regular.specs.Answers.{number}
+use Rattle.witness_check.specs.Verdict.{admission_lowest, check_refused, check_no, check_told, not_named, not_within}
 use Rattle.witness_check.proofs.check_witness.Goals as goal
+use Rattle.witness_check.proofs.check_witness.Goals.{then-each_once, else-each_once}
 
-pub returns-then-number-ne0 : goal.returns-then-number-ne0
-returns-then-number-ne0 c =
+pub returns-in_err-both : goal.returns-in_err-both
+returns-in_err-both c =
     let a = c.args in
-    let p = c.admit_runs-a in
-    let q = c.admit_runs-b in
-    let l = c.lower_of-number in
-    check_refused a.n a.g a.first.now a.second.now a.names.now a.mask p.result.number q.result.number l.result
-    p.ensures.lowest q.ensures.lowest l.ensures c.if-number-ne0.true
+    let e = c.in_err-both.field-0.0 in
+    let is : c.from_residual.result ≡ Err e = search rules in
+    rw is (check_refused a.n a.g a.first.now a.second.now a.names.now a.mask _ _ (number e) (admission_lowest c.admit-a.result c.admit-a.ensures)
+    (admission_lowest c.admit-b.result c.admit-b.ensures) c.in_err-both.ensures.lower (λ z. omega (arith, number_positive e)))
 
-pub returns-then-not-each_once : goal.returns-then-not-each_once
-returns-then-not-each_once c =
-    let Claimed : Type 0 =
-    Witness c.args.n (runs_of c.args.first.now) (runs_of c.args.second.now) c.args.names.now c.args.mask in
-    let says-no : (Claimed → ⊥) → ChecksWitness c.args.n (of_runs c.args.n c.args.g c.args.first.now)
-    (of_runs c.args.n c.args.g c.args.second.now)
-    c.args.names.now c.args.mask Checked.No =
-    λ h. (let a = c.args in
-    let p = c.admit_runs-a in
-    let q = c.admit_runs-b in
-    let l = c.lower_of-number in
-    check_no a.n a.g a.first.now a.second.now a.names.now a.mask p.result.number q.result.number l.result
-    p.ensures.lowest q.ensures.lowest l.ensures c.if-number-ne0.false h) in
+pub returns-then-from-power : goal.returns-then-from-power
+returns-then-from-power c =
     let a = c.args in
-    says-no (not_named a.n a.first.now a.second.now a.names.now a.mask (c.each_once.ensures.1 (c.if-not-each_once.true)))
+    let answer = check_told a.n a.g a.first.now a.second.now a.names.now a.mask _ _ 0 (admission_lowest c.admit-a.result c.admit-a.ensures)
+    (admission_lowest c.admit-b.result c.admit-b.ensures) c.in_ok-both.ensures.lower c.partnered.result refl in
+    elim c.if-each_once.branch [
+      | then-each_once w ↦ answer (c.each_once.ensures.0 w.if-each_once.true)
+          (let low = ltb-true w.from.result w.power.result (sym w.value-is ∙ c.if-from-power.true) in omega (arith, low, w.power.ensures.0, w.from.ensures))
+          c.partnered.ensures
+      | else-each_once w ↦ absurd (false≢true (sym w.if-each_once.false ∙ sym w.value-is ∙ c.if-from-power.true))
+    ]
 
-pub returns-then-power-wide : goal.returns-then-power-wide
-returns-then-power-wide c =
-    let Claimed : Type 0 =
-    Witness c.args.n (runs_of c.args.first.now) (runs_of c.args.second.now) c.args.names.now c.args.mask in
-    let says-no : (Claimed → ⊥) → ChecksWitness c.args.n (of_runs c.args.n c.args.g c.args.first.now)
-    (of_runs c.args.n c.args.g c.args.second.now)
-    c.args.names.now c.args.mask Checked.No =
-    λ h. (let a = c.args in
-    let p = c.admit_runs-a in
-    let q = c.admit_runs-b in
-    let l = c.lower_of-number in
-    check_no a.n a.g a.first.now a.second.now a.names.now a.mask p.result.number q.result.number l.result
-    p.ensures.lowest q.ensures.lowest l.ensures c.if-number-ne0.false h) in
+pub returns-else-from-power : goal.returns-else-from-power
+returns-else-from-power c =
     let a = c.args in
-    let k = c.power.ensures.0 in
-    let w = c.wide.ensures.0 in
-    let h = c.if-power-wide.true in
-    says-no (not_within a.n a.first.now a.second.now a.names.now a.mask (omega arith))
-
-pub returns-then-not-partnered : goal.returns-then-not-partnered
-returns-then-not-partnered c =
-    let Claimed : Type 0 =
-    Witness c.args.n (runs_of c.args.first.now) (runs_of c.args.second.now) c.args.names.now c.args.mask in
-    let says-no : (Claimed → ⊥) → ChecksWitness c.args.n (of_runs c.args.n c.args.g c.args.first.now)
-    (of_runs c.args.n c.args.g c.args.second.now)
-    c.args.names.now c.args.mask Checked.No =
-    λ h. (let a = c.args in
-    let p = c.admit_runs-a in
-    let q = c.admit_runs-b in
-    let l = c.lower_of-number in
-    check_no a.n a.g a.first.now a.second.now a.names.now a.mask p.result.number q.result.number l.result
-    p.ensures.lowest q.ensures.lowest l.ensures c.if-number-ne0.false h) in
-    let a = c.args in
-    says-no (not_partnered a.n a.first.now a.second.now a.names.now a.mask
-    (c.partnered.ensures.1 (c.if-not-partnered.true)))
-
-pub returns : goal.returns
-returns c =
-    let a = c.args in
-    let p = c.admit_runs-a in
-    let q = c.admit_runs-b in
-    let l = c.lower_of-number in
-    let k = c.power.ensures.0 in
-    let w = c.wide.ensures.0 in
-    let v = c.if-power-wide.false in
-    check_yes a.n a.g a.first.now a.second.now a.names.now a.mask p.result.number q.result.number l.result p.ensures.lowest
-    q.ensures.lowest l.ensures c.if-number-ne0.false
-    (c.each_once.ensures.0 (c.if-not-each_once.false)) (omega arith) (c.partnered.ensures.0 (c.if-not-partnered.false))
+    let no = check_no a.n a.g a.first.now a.second.now a.names.now a.mask _ _ 0 (admission_lowest c.admit-a.result c.admit-a.ensures)
+    (admission_lowest c.admit-b.result c.admit-b.ensures) c.in_ok-both.ensures.lower refl in
+    rw c.if-from-power.false
+    (elim c.if-each_once.branch [
+      | then-each_once w ↦ no (not_within a.n a.first.now a.second.now a.names.now a.mask
+          (let high = ltb-false w.from.result w.power.result (sym w.value-is ∙ c.if-from-power.false)
+          in omega (arith, high, w.power.ensures.0, w.from.ensures)))
+      | else-each_once w ↦ no (not_named a.n a.first.now a.second.now a.names.now a.mask (c.each_once.ensures.1 w.if-each_once.false))
+    ])

@@ -1,35 +1,17 @@
-use Rattle.std.proofs.Common.{get_or, arith, ◌∙◌, true}
-use borrow.Author.Count.{below_more}
-use Rattle.witness_check.specs.Partners.{partner_each, partner_none, partner_at}
-use Rattle.gf2.specs.Answers.{tells_no}
+-- `witness_check::partnered` meets its contract: each run is tested for a partner (`partners_told`). Assumes nothing.
+use Rattle.std.proofs.Common.{ℕ, ◌≡◌, rules, tests}
+use Rattle.std.proofs.lemmas.Iterator.{YieldsList-from_slice}
+use Rattle.std.proofs.lemmas.Iterator.Search.{all_from_yields_List}
 use Rattle.isomorphism_laws.specs.Moving.{moved_names}
+use Rattle.regular.specs.Same.{moved}
+use Rattle.witness_check.specs.Partners.{has_partner, partners_told}
 use Rattle.witness_check.proofs.partnered.Goals as goal
 
-pub runs-preserved : goal.runs-preserved
-runs-preserved c =
-    let all = c.array_of-all in
-    let a = c.args in (
-      omega arith,
-      (
-        below_more _ _ c.runs.invariant.1.0
-            (partner_at a.n a.first.now a.second.now a.names.now a.mask c.runs.i c.loop-j.j c.renamed.result
-            (c.renamed.ensures ∙ moved_names all.result a.names.now a.n (get_or a.first.now c.runs.i 0) (λ f _. all.ensures f))
-            (omega arith) c.if-second-j-2.true),
-        c.loop-j.invariant.1.1,
-      ),
-    )
-
-pub returns-after-runs : goal.returns-after-runs
-returns-after-runs c =
+pub returns : goal.returns
+returns c =
     let a = c.args in
-    partner_each a.n a.first.now a.second.now a.names.now a.mask c.runs.i c.runs.answer c.runs.invariant.1.1
-    (omega arith) c.runs.invariant.1.0
-
-pub returns-then-second-j : goal.returns-then-second-j
-returns-then-second-j c =
-    let all = c.array_of-all in
-    let a = c.args in
-    tells_no _ _
-    (partner_none a.n a.first.now a.second.now a.names.now a.mask c.runs.i c.loop-j.j c.renamed.result
-    (c.renamed.ensures ∙ moved_names all.result a.names.now a.n (get_or a.first.now c.runs.i 0) (λ f _. all.ensures f)) (omega arith)
-    (omega arith) c.loop-j.invariant.1.0)
+    let names = c.array_of-all in
+    let is : (x : ℕ) → moved names.result a.n x ≡ moved a.names.now a.n x = λ x. moved_names names.result a.names.now a.n x (λ f _. names.ensures f) in
+    let all = all_from_yields_List (has_partner a.n a.second.now a.names.now a.mask (moved names.result a.n) is) _ _ c.all.result c.all.ensures.ran
+    (YieldsList-from_slice a.first.now cc) (λ x b q k. search (rules, tests)) in
+    rw all (partners_told a.n a.second.now a.names.now a.mask (moved names.result a.n) is a.first.now)

@@ -1,16 +1,10 @@
-use Rattle.std.proofs.Common.{sym, ap, arith, ◌∙◌, ◌-◌}
-use Rattle.words.specs.Model.{reduced}
-use Rattle.word_forms.specs.Turns.{reduce_turn, reduce_end}
+use Rattle.std.proofs.Common.{sym, arith, ◌∙◌}
+use Rattle.word_forms.specs.Turns.{smaller_turn, reduce_end}
 use Rattle.word_forms.proofs.reduce.Goals as goal
 
 pub loop-f-preserved : goal.loop-f-preserved
 loop-f-preserved c =
-    let s = c.args in (
-      omega arith,
-      c.loop-f.invariant.1 ∙ reduce_turn s.piv.now c.loop-f.f c.loop-f.v (omega arith)
-          ∙ ap (reduced s.piv.now (c.loop-f.f - 1)) (sym c.clear-v.ensures),
-    )
+    c.loop-f.invariant ∙ smaller_turn c.args.piv.now c.args.n c.loop-f.f c.loop-f.v _ c.requires.1 (omega arith) (omega arith) c.min-v.ensures
 
 pub returns : goal.returns
-returns c =
-    sym (c.loop-f.invariant.1 ∙ reduce_end c.args.piv.now c.loop-f.f c.loop-f.v (omega arith))
+returns c = sym (c.loop-f.invariant ∙ reduce_end c.args.piv.now c.loop-f.f c.loop-f.v (omega arith))

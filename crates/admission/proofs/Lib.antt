@@ -1,0 +1,3 @@
+pub mod OfColumns
+pub mod OfRuns
+pub mod OfWords

@@ -1,8 +1,0 @@
--- Each turn answers a line. The measure is the lines that may still come. Assumes nothing.
-use Rattle.records.proofs.main.Given as goal
-
-abbrev pub invariant-loop-left : goal.invariant-loop-left
-invariant-loop-left l = Unit {0}
-
-abbrev pub decreases-loop-left : goal.decreases-loop-left
-decreases-loop-left l = l.left
